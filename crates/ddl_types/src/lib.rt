@@ -1,0 +1,8 @@
+//! Numbers, faults, types and printable values, and the definitions of values, streams and outcomes.
+#![tactic(auto)]
+
+mod fault;
+mod num;
+
+pub use fault::Fault;
+pub use num::{Num, NumType};
