@@ -1,2 +1,5 @@
+pub mod BestFailureRows
 pub mod Growing
 pub mod Joins
+pub mod PlainLayers
+pub mod PlainRows

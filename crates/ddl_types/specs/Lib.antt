@@ -4,4 +4,8 @@ pub mod Cut
 pub mod Growth
 pub mod Joining
 pub mod Outcome
+pub mod Plain
+pub mod PlainOf
+pub mod PlainView
 pub mod Value
+pub mod Whole
