@@ -1,1 +1,11 @@
+pub mod Answer
+pub mod BestFailure
+pub mod Cut
+pub mod Growth
+pub mod Joining
 pub mod Num
+pub mod Outcome
+pub mod Plain
+pub mod PlainOf
+pub mod PlainView
+pub mod Value

@@ -3,6 +3,8 @@
 
 mod fault;
 mod num;
+mod plain;
 
 pub use fault::Fault;
 pub use num::{Num, NumType};
+pub use plain::Plain;

@@ -1,0 +1,6 @@
+pub mod BestFailureRows
+pub mod Growing
+pub mod Joins
+pub mod NumRows
+pub mod PlainLayers
+pub mod PlainRows
