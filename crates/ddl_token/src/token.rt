@@ -1,5 +1,8 @@
+ghost use Rattle.std.specs.Prelude.{◌≡◌, IfOk};
+
 use crate::{Mark, Word};
-use ddl_base::Bytes;
+use ddl_base::{Bytes, NoMemory};
+use std::alloc::Global;
 
 /// The base in which a number is written.
 #[derive(Clone, Copy, Debug, PartialEq, Eq)]
@@ -33,6 +36,32 @@ pub enum Tok {
     Char(u8),
     /// The bytes that a text literal means.
     Text(Bytes),
+}
+
+impl Tok {
+    /// Another of the same value.
+    pub fn copy(&self, alloc: Global) -> Result<Self, NoMemory>
+        ensures { IfOk result (λ copy. copy ≡ self.now) }
+    {
+        Ok(match self {
+            Tok::Word(word) => Tok::Word(*word),
+            Tok::Mark(mark) => Tok::Mark(*mark),
+            Tok::Upper(name) => Tok::Upper(Bytes::of(alloc, name.get())?),
+            Tok::Lower(name) => Tok::Lower(Bytes::of(alloc, name.get())?),
+            Tok::Class(name) => Tok::Class(Bytes::of(alloc, name.get())?),
+            Tok::Number {
+                value,
+                base,
+                digits,
+            } => Tok::Number {
+                value: *value,
+                base: *base,
+                digits: *digits,
+            },
+            Tok::Char(byte) => Tok::Char(*byte),
+            Tok::Text(bytes) => Tok::Text(Bytes::of(alloc, bytes.get())?),
+        })
+    }
 }
 
 /// A token and its place in the text of its module.
