@@ -1,0 +1,4 @@
+pub mod Types
+pub mod TyView
+pub mod Conditions
+pub mod CondView

@@ -1,0 +1,3 @@
+pub mod TyLayers
+pub mod Arguments
+mod TyRows
