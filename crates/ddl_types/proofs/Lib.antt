@@ -4,3 +4,6 @@ pub mod Joins
 pub mod NumRows
 pub mod PlainLayers
 pub mod PlainRows
+pub mod TyLayers
+pub mod Arguments
+mod TyRows

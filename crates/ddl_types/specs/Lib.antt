@@ -9,3 +9,7 @@ pub mod Plain
 pub mod PlainOf
 pub mod PlainView
 pub mod Value
+pub mod Types
+pub mod TyView
+pub mod Conditions
+pub mod CondView
