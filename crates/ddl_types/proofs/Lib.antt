@@ -1,3 +1,5 @@
+mod TyRows
+pub mod Arguments
 pub mod BestFailureRows
 pub mod Growing
 pub mod Joins
@@ -5,5 +7,3 @@ pub mod NumRows
 pub mod PlainLayers
 pub mod PlainRows
 pub mod TyLayers
-pub mod Arguments
-mod TyRows
