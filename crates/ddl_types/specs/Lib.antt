@@ -1,5 +1,7 @@
 pub mod Answer
 pub mod BestFailure
+pub mod CondView
+pub mod Conditions
 pub mod Cut
 pub mod Growth
 pub mod Joining
@@ -8,4 +10,6 @@ pub mod Outcome
 pub mod Plain
 pub mod PlainOf
 pub mod PlainView
+pub mod TyView
+pub mod Types
 pub mod Value
