@@ -1,4 +1,13 @@
+pub mod Branching
+pub mod CallRows
+pub mod ChoiceRows
+pub mod Depths
 pub mod Law
+pub mod LoopRows
 pub mod Rising
+pub mod RowForms
 pub mod Rows
+pub mod StreamRows
 pub mod Telling
+pub mod TellingParts
+pub mod Told

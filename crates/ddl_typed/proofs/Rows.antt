@@ -1,4 +1,4 @@
--- Worked rows, computed on the definitions.
+-- Worked rows of texts and blocks, computed on the definitions.
 use Rattle.std.proofs.Common.{◌≡◌, ℕ, List, [], ◌∷◌, refl, Some}
 use Rattle.std.specs.Prelude.{codes}
 use Rattle.ddl_base.specs.declared.span.Span.{Span}
@@ -7,29 +7,14 @@ use Rattle.ddl_types.specs.Value.{Value, Stream, in_input, unit, array, fields, 
 use Rattle.ddl_types.specs.Value as v
 use Rattle.ddl_types.specs.Outcome.{Deep, Stuck, ends, tick, parsed, missed}
 use Rattle.ddl_types.specs.Answer.{Answer, answer_of, counted, failed}
-use Rattle.ddl_typed.specs.Tree.{Expr, Decl, expr, text, local, pure, uint8, match, end, block, no_items, item, plain, let_, field, result_}
+use Rattle.ddl_typed.specs.Tree.{Spec, expr, local, pure, uint8, end, block, no_items, item, plain, let_, field, result_}
 use Rattle.ddl_typed.specs.Primitives.{byte_value, byte_values}
 use Rattle.ddl_typed.specs.Denoted.{Denoted}
-
-abbrev span : ℕ → ℕ → Span
-span from to = record { «module» = 0; from = from; to = to }
-
--- a specification of one declaration with the name at 4 to 8
-abbrev main : Expr → List Decl
-main e = record { name = span 4 8; body = e } ∷ []
-
-abbrev rest_of : List ℕ → ℕ → ℕ → Stream
-rest_of input from to = record { bytes = input; source = in_input; from = from; to = to }
-
-abbrev match_text : List ℕ → ℕ → ℕ → ℕ → Expr
-match_text bs from inner to = expr (match (expr (text bs) (span inner to))) (span from to)
-
-abbrev one_parse : Value → Stream → Answer
-one_parse w s = record { parses = record { value = w; rest = s } ∷ []; closing = counted 1 }
+use Rattle.ddl_typed.proofs.RowForms.{span, main, rest_of, match_text, one_parse}
 
 -- ---- def Main = Match "ab"
 
-abbrev match_ab : List Decl
+abbrev match_ab : Spec
 match_ab = main (match_text (codes "ab") 11 17 21)
 
 -- on `ab`: five ticks, those of the call, the form, the text and two bytes
@@ -52,7 +37,7 @@ match_ab_at_depth_0 = refl
 
 -- ---- def Main = block { x = UInt8; let y = Match "b"; ^ y; END }
 
-abbrev field_and_let : List Decl
+abbrev field_and_let : Spec
 field_and_let = main (expr (block (
     item (field (codes "x") 0 (expr uint8 (span 23 28)))
     (item (let_ 1 (match_text (codes "b") 38 44 47))
@@ -71,7 +56,7 @@ field_and_let_on_ab_answer = refl
 
 -- ---- def Main = block { $$ = UInt8; Match "b" }
 
-abbrev result_first : List Decl
+abbrev result_first : Spec
 result_first = main (expr (block (item (result_ (expr uint8 (span 24 29))) (item (plain (match_text (codes "b") 31 37 40)) no_items))) (span 11 42))
 
 result_first_on_ab : Denoted 1 result_first 0 (codes "ab") ≡ tick (tick (tick (tick (tick (tick (tick (parsed (byte_value 97) (rest_of (codes "ab") 2 2))))))))
@@ -82,7 +67,7 @@ result_first_on_ab_answer = refl
 
 -- ---- def Main = block { UInt8; UInt8 }
 
-abbrev two_bytes : List Decl
+abbrev two_bytes : Spec
 two_bytes = main (expr (block (item (plain (expr uint8 (span 19 24))) (item (plain (expr uint8 (span 26 31))) no_items))) (span 11 33))
 
 -- on `a`: the second byte is absent
@@ -99,21 +84,21 @@ two_bytes_on_ab_answer = refl
 -- ---- the values of blocks
 
 -- def Main = block { UInt8; let y = UInt8 }: the last item is a `let`, and the value is `{}`
-abbrev let_last : List Decl
+abbrev let_last : Spec
 let_last = main (expr (block (item (plain (expr uint8 (span 19 24))) (item (let_ 0 (expr uint8 (span 34 39))) no_items))) (span 11 41))
 
 let_last_on_ab : answer_of (Denoted 1 let_last 0 (codes "ab")) ≡ Some (one_parse unit (rest_of (codes "ab") 2 2))
 let_last_on_ab = refl
 
 -- def Main = block { x = UInt8; UInt8 }: a field and no `$$`, and the value is the record
-abbrev field_first : List Decl
+abbrev field_first : Spec
 field_first = main (expr (block (item (field (codes "x") 0 (expr uint8 (span 23 28))) (item (plain (expr uint8 (span 30 35))) no_items))) (span 11 37))
 
 field_first_on_ab : answer_of (Denoted 1 field_first 0 (codes "ab")) ≡ Some (one_parse x_is_97 (rest_of (codes "ab") 2 2))
 field_first_on_ab = refl
 
 -- def Main = block { y = block { x = UInt8; z = ^ x }; $$ = ^ y; UInt8 }: a block in a block, and a name used twice
-abbrev nested : List Decl
+abbrev nested : Spec
 nested = main (expr (block (
     item (field (codes "y") 0 (expr (block (
     item (field (codes "x") 0 (expr uint8 (span 35 40)))

@@ -1,0 +1,70 @@
+-- Which values have a pattern, and what it names.
+use Rattle.std.specs.Prelude.{ℕ, List, Bool, true, false, bytes_eq, if◌then◌else◌, pos, Option, Some, None}
+use Rattle.std.specs.Ordering.{int_eq}
+use Rattle.ddl_base.specs.declared.span.Span.{Span}
+use Rattle.ddl_base.specs.declared.why.Why.TheVariants.{Guard}
+use Rattle.ddl_types.specs.Value.{Value, Stream, number, boolean, unit, nothing, just, tagged}
+use Rattle.ddl_types.specs.Outcome.{Outcome, Stuck, ends, parsed}
+use Rattle.ddl_typed.specs.Tree.{Pattern, any, at_number, at_truth, at_nothing, at_just, at_tag}
+use Rattle.ddl_typed.specs.Env.{Env, with_value}
+use Rattle.ddl_typed.specs.Valued.{Valued, stuck}
+use Rattle.ddl_typed.specs.Primitives.{missed_at}
+
+-- the value has the pattern, with its content, or another one, or no pattern of this kind
+pub data Matched : Type 0 where
+  has_it : Value → Matched
+  has_another : Matched
+  has_none : Matched
+
+-- a pattern by a test, with the content of a value that passes it
+abbrev pub by_test : Bool → Value → Matched
+by_test true content = has_it content
+by_test false content = has_another
+
+-- truth values are equal
+abbrev pub same_truth : Bool → Bool → Bool
+same_truth true b = b
+same_truth false true = false
+same_truth false false = true
+
+-- whether a value has a pattern; the content is that of a `just` or a tag, else `{}`
+abbrev pub matched : Pattern → Value → Matched
+matched any v = has_it unit
+matched (at_number n) (number ty z) = by_test (int_eq z (pos n)) unit
+matched (at_truth b) (boolean c) = by_test (same_truth b c) unit
+matched at_nothing nothing = has_it unit
+matched at_nothing (just v) = has_another
+matched (at_just x) nothing = has_another
+matched (at_just x) (just v) = has_it v
+matched (at_tag name x) (tagged other v) = by_test (bytes_eq name other) v
+matched p v = has_none
+
+-- the name of the content
+abbrev pub name_of : Pattern → Option ℕ
+name_of any = None
+name_of (at_number n) = None
+name_of (at_truth b) = None
+name_of at_nothing = None
+name_of (at_just x) = x
+name_of (at_tag name x) = x
+
+-- a value under a name, where there is one
+abbrev pub with_optional : Option ℕ → Value → Env → Env
+with_optional None v env = env
+with_optional (Some x) v env = with_value x v env
+
+-- the alternative of a pattern, where its value is, and else the alternatives after it
+abbrev pub value_at : Matched → (Value → Valued) → Valued → Valued
+value_at (has_it content) here later = here content
+value_at has_another here later = later
+value_at has_none here later = stuck
+
+-- the same of grammars
+abbrev pub outcome_at : Matched → (Value → Outcome) → Outcome → Outcome
+outcome_at (has_it content) here later = here content
+outcome_at has_another here later = later
+outcome_at has_none here later = ends Stuck
+
+-- `e is p`: the content; it fails on another value
+abbrev pub guarded : Pattern → Value → Span → Stream → Outcome
+guarded p v span s = outcome_at (matched p v) (λ content. parsed content s) (missed_at Guard s span)
