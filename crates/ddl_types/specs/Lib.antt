@@ -5,6 +5,7 @@ pub mod Conditions
 pub mod Cut
 pub mod Growth
 pub mod Joining
+pub mod Keeping
 pub mod Num
 pub mod Outcome
 pub mod Plain
