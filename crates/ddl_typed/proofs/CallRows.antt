@@ -15,7 +15,7 @@ use Rattle.ddl_typed.specs.Denoted.{Denoted}
 use Rattle.ddl_typed.proofs.RowForms.{span, main, main_decl, rest_of, match_text, local_at, pure_at, uint_type, int_at, count_at, an_int, text_value, ticking, one_parse, no_parse}
 
 abbrev two : Expr → Expr → Spec
-two first second = record { decls = main_decl first ∷ main_decl second ∷ [] }
+two first second = record { decls = main_decl first ∷ main_decl second ∷ []; bits = [] }
 
 -- ---- a grammar argument that captures a value, used twice
 -- def Main = block { let k = UInt8; P (block { UInt8; ^ k }) }

@@ -46,8 +46,8 @@ first_wins_on_ab_answer = refl
 abbrev all_of_first : Spec
 all_of_first = main (expr (first (
     tag (codes "x") (expr (first (
-        tag (codes "p") (expr (choose (tag (codes "q") (expr uint8 (span 48 53)) (tag (codes "r") (match_text (codes "a") 59 65 68) no_alts))) (span 35 70))
-        (tag (codes "s") (expr uint8 (span 76 81)) no_alts))) (span 23 83))
+    tag (codes "p") (expr (choose (tag (codes "q") (expr uint8 (span 48 53)) (tag (codes "r") (match_text (codes "a") 59 65 68) no_alts))) (span 35 70))
+    (tag (codes "s") (expr uint8 (span 76 81)) no_alts))) (span 23 83))
     (tag (codes "y") (expr uint8 (span 89 94)) no_alts))) (span 11 96))
 
 abbrev under_x_p : Value → Value

@@ -65,7 +65,7 @@ module _ (spec : Spec) (l l' : Lower) (h : LowerGrows l l') where
         is_counted (then_value_rises _ _ (val_rises start env) (λ v. then_value_rises _ _ (val_rises e env) (λ w. then_value_rises _ _ (rises_same _) (λ ps. folds_rise _ env v ps))))
     form_rises (map_ names e body) span env =
         is_counted (then_value_rises _ _ (val_rises e env) (λ w. then_value_rises _ _ (rises_same (elements_of w)) (λ ps.
-            then_value_rises _ _ (eaches_rise (record { names = names; body = body; over_map = is_map w }) env no_pairs ps) (λ done. rises_same (gives (gathered (is_map w) done))))))
+        then_value_rises _ _ (eaches_rise (record { names = names; body = body; over_map = is_map w }) env no_pairs ps) (λ done. rises_same (gives (gathered (is_map w) done))))))
     form_rises _ span env = is_stuck
 
     vals_rise : (es : Exprs) (env : Env) → Rises (vals spec l es env) (vals spec l' es env)
@@ -179,21 +179,23 @@ module _ (spec : Spec) (l l' : Lower) (h : LowerGrows l l') where
       (record { den = den spec l; val = val spec l; repeat = repeat_turn spec l; fold_value = fold_value_turn spec l; each_value = each_value_turn spec l; fold = fold_turn spec l; each = each_turn spec l })
       (record { den = den spec l'; val = val spec l'; repeat = repeat_turn spec l'; fold_value = fold_value_turn spec l'; each_value = each_value_turn spec l'; fold = fold_turn spec l'; each = each_turn spec l' })
   next_grows = record {
-      den = den_grows;
-      val = val_rises;
-      repeat = repeat_grows;
-      fold_value = λ f env so_far k v ps. is_counted (then_value_rises _ _ (val_rises f.body _) (λ w. folds_rise f env w ps));
-      each_value = λ m env done k v ps. is_counted (then_value_rises _ _ (val_rises m.body _) (λ w. eaches_rise m env (with_pair done k w) ps));
-      fold = λ f env so_far k v ps s. at_tick (bind_grows _ _ (den_grows f.body _ s) (λ w t. folds_grow f env w ps t));
-      each = λ m env done k v ps s. at_tick (bind_grows _ _ (den_grows m.body _ s) (λ w t. eaches_grow m env (with_pair done k w) ps t)) }
+    den = den_grows;
+    val = val_rises;
+    repeat = repeat_grows;
+    fold_value = λ f env so_far k v ps. is_counted (then_value_rises _ _ (val_rises f.body _) (λ w. folds_rise f env w ps));
+    each_value = λ m env done k v ps. is_counted (then_value_rises _ _ (val_rises m.body _) (λ w. eaches_rise m env (with_pair done k w) ps));
+    fold = λ f env so_far k v ps s. at_tick (bind_grows _ _ (den_grows f.body _ s) (λ w t. folds_grow f env w ps t));
+    each = λ m env done k v ps s. at_tick (bind_grows _ _ (den_grows m.body _ s) (λ w t. eaches_grow m env (with_pair done k w) ps t));
+  }
 
 pub level_grows : (spec : Spec) (n : ℕ) → LowerGrows (level spec n) (level spec (suc n))
 level_grows spec zero = record {
-    den = λ e env s. at_deep;
-    val = λ e env. is_deep;
-    repeat = λ r env xs s. at_deep;
-    fold_value = λ f env so_far k v ps. is_deep;
-    each_value = λ m env done k v ps. is_deep;
-    fold = λ f env so_far k v ps s. at_deep;
-    each = λ m env done k v ps s. at_deep }
+  den = λ e env s. at_deep;
+  val = λ e env. is_deep;
+  repeat = λ r env xs s. at_deep;
+  fold_value = λ f env so_far k v ps. is_deep;
+  each_value = λ m env done k v ps. is_deep;
+  fold = λ f env so_far k v ps s. at_deep;
+  each = λ m env done k v ps s. at_deep;
+}
 level_grows spec (suc n) = next_grows spec (level spec n) (level spec (suc n)) (level_grows spec n)

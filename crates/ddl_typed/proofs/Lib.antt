@@ -1,3 +1,4 @@
+pub mod BitRows
 pub mod Branching
 pub mod CallRows
 pub mod ChoiceRows

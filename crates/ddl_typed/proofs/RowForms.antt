@@ -20,7 +20,7 @@ main_decl e = record { name = span 4 8; body = of_form e }
 
 -- a specification of one declaration
 abbrev pub main : Expr → Spec
-main e = record { decls = main_decl e ∷ [] }
+main e = record { decls = main_decl e ∷ []; bits = [] }
 
 abbrev pub rest_of : List ℕ → ℕ → ℕ → Stream
 rest_of input from to = record { bytes = input; source = in_input; from = from; to = to }

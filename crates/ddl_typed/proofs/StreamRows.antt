@@ -96,8 +96,8 @@ abbrev input_first : Spec
 input_first = main (expr (first (
     tag (codes "a") (match_text (codes "z") 23 29 32)
     (tag (codes "b") (expr (block (
-        item (plain (set_at 46 74 (expr (paren (stream_of_text (codes "ab") 57 69 73)) (span 56 74))))
-        (item (plain (match_text (codes "ax") 76 82 86)) no_items))) (span 38 88)) no_alts))) (span 11 90))
+    item (plain (set_at 46 74 (expr (paren (stream_of_text (codes "ab") 57 69 73)) (span 56 74))))
+    (item (plain (match_text (codes "ax") 76 82 86)) no_items))) (span 38 88)) no_alts))) (span 11 90))
 
 -- on an empty input: a failure in the input is told before one in an array that lies further
 input_first_on_nothing : Denoted 1 input_first 0 [] ≡

@@ -13,7 +13,7 @@ use Rattle.ddl_typed.specs.Lower.{Lower}
 use Rattle.ddl_typed.specs.Repetition.{Repetition, is_below, is_full}
 use Rattle.ddl_typed.specs.Loops.{Fold, Each, elements_of, is_map, with_element, with_pair}
 use Rattle.ddl_typed.specs.Arrays.{snoc}
-use Rattle.ddl_typed.specs.Casts.{fit}
+use Rattle.ddl_typed.specs.Casts.{target, fit}
 use Rattle.ddl_typed.specs.Classes.{class_set}
 use Rattle.ddl_typed.specs.Patterns.{matched, name_of, with_optional}
 use Rattle.ddl_typed.specs.Blocks.{Built, nothing_built, with_part, bound}
@@ -53,23 +53,23 @@ module _ (spec : Spec) (l : Lower) (h : LowerTold l) where
     form_told (fail n) span env s = tt
     form_told (primitive p es) span env s = then_parse_told (vals spec l es env) _ (λ vs. primitive_told p vs span s)
     form_told (is_ e p) span env s = then_parse_told (val spec l e env) _ (λ v. guarded_told p v span s)
-    form_told (fits e t) span env s = then_parse_told (val spec l e env) _ (λ v. fitted_told (fit (closed env t) v) span s)
+    form_told (fits e t) span env s = then_parse_told (val spec l e env) _ (λ v. fitted_told (fit (target spec.bits (closed env t)) v) span s)
     form_told (paren e) span env s = den_told e env s
     form_told (block is) span env s = leave_told (den_items spec l is env nothing_built s) (items_told is env nothing_built s)
     form_told (first as_) span env s = leave_told (of_some as_ (den_first spec l as_ env s)) (first_told as_ env s)
     form_told (choose as_) span env s = leave_told (of_some as_ (den_choose spec l as_ env s)) (choose_told as_ env s)
     form_told (many c b p) span env s = then_parse_told (limits_of spec l b env) _ (λ m.
-            let r : Repetition = record { choice = c; limits = m; body = p } in leave_told (l.repeat r env no_values s) (h.repeat r env no_values s))
+        let r : Repetition = record { choice = c; limits = m; body = p } in leave_told (l.repeat r env no_values s) (h.repeat r env no_values s))
     form_told (optional c p) span env s = leave_told (or_nothing c (den spec l p env s) s) (or_nothing_told c (den spec l p env s) s (den_told p env s))
     form_told (if_ c p q) span env s =
         then_parse_told (val spec l c env) _ (λ v. leave_told (branch v (den spec l p env s) (den spec l q env s)) (branch_told v (den spec l p env s) (den spec l q env s) (den_told p env s) (den_told q env s)))
     form_told (case_ e cs) span env s = then_parse_told (val spec l e env) _ (λ v. leave_told (den_case spec l cs v span env s) (case_told cs v span env s))
     form_told (for_ x start names e p) span env s =
         then_parse_told (val spec l start env) _ (λ v. then_parse_told (val spec l e env) _ (λ w. then_parse_told (elements_of w) _ (λ ps.
-            let f : Fold = record { result = x; names = names; body = p } in leave_told (folds spec l f env v ps s) (folds_told f env v ps s))))
+        let f : Fold = record { result = x; names = names; body = p } in leave_told (folds spec l f env v ps s) (folds_told f env v ps s))))
     form_told (map_ names e p) span env s =
         then_parse_told (val spec l e env) _ (λ w. then_parse_told (elements_of w) _ (λ ps.
-            let m : Each = record { names = names; body = p; over_map = is_map w } in leave_told (eaches spec l m env no_pairs ps s) (eaches_told m env no_pairs ps s)))
+        let m : Each = record { names = names; body = p; over_map = is_map w } in leave_told (eaches spec l m env no_pairs ps s) (eaches_told m env no_pairs ps s)))
     form_told (call f args) span env s =
         then_parse_told (args_env spec l args env empty) _ (λ own. then_parse_told (called spec f) _ (λ p. leave_told (l.den p own s) (h.den p own s)))
     form_told (parameter x) span env s = then_parse_told (given (grammar_in env x)) _ (λ c. leave_told (l.den c.form c.env s) (h.den c.form c.env s))

@@ -1,4 +1,5 @@
 pub mod Arrays
+pub mod Bitdata
 pub mod Blocks
 pub mod Builtins
 pub mod Casts

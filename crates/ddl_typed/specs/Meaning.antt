@@ -13,7 +13,7 @@ use Rattle.ddl_typed.specs.Lower.{Lower, bottom}
 use Rattle.ddl_typed.specs.Numbers.{number_type, number_at, count_of}
 use Rattle.ddl_typed.specs.Operators.{infix_value, prefix_value}
 use Rattle.ddl_typed.specs.Records.{selected, record_of}
-use Rattle.ddl_typed.specs.Casts.{fit, fitted, cast_value}
+use Rattle.ddl_typed.specs.Casts.{target, fit, fitted, cast_value}
 use Rattle.ddl_typed.specs.Patterns.{matched, name_of, with_optional, value_at, outcome_at, guarded}
 use Rattle.ddl_typed.specs.Classes.{class_set, class_byte}
 use Rattle.ddl_typed.specs.Primitives.{byte_values, one_byte, at_end, match_bytes, match_value, missed_at}
@@ -69,7 +69,7 @@ module _ (spec : Spec) (lower : Lower) where
     form_val (select e name) span env = counts (then_value (val e env) (λ v. selected name v))
     form_val (infix_ op a b) span env = counts (then_value (val a env) (λ v. infix_value op span v (val b env)))
     form_val (prefix_ op e) span env = counts (then_value (val e env) (λ v. prefix_value op span v))
-    form_val (cast c e t) span env = counts (then_value (val e env) (λ v. cast_value c (closed env t) v))
+    form_val (cast c e t) span env = counts (then_value (val e env) (λ v. cast_value c (target spec.bits (closed env t)) v))
     form_val (builtin b es) span env = counts (then_value (vals es env) (λ vs. builtin_value b vs))
     form_val (value_call f args) span env = counts (then_value (args_env args env empty) (λ own. then_value (called spec f) (λ e. lower.val e own)))
     form_val (paren e) span env = val e env
@@ -144,7 +144,7 @@ module _ (spec : Spec) (lower : Lower) where
     form_den (fail n) span env s = tick (missed_at (why.Said n) s span)
     form_den (primitive p es) span env s = tick (then_parse (vals es env) (λ vs. primitive_outcome p vs span s))
     form_den (is_ e p) span env s = tick (then_parse (val e env) (λ v. guarded p v span s))
-    form_den (fits e t) span env s = tick (then_parse (val e env) (λ v. fitted (fit (closed env t) v) span s))
+    form_den (fits e t) span env s = tick (then_parse (val e env) (λ v. fitted (fit (target spec.bits (closed env t)) v) span s))
     form_den (paren e) span env s = den e env s
     form_den (block is) span env s = tick (leave (den_items is env nothing_built s))
     form_den (first as_) span env s = tick (leave (of_some as_ (den_first as_ env s)))
@@ -223,13 +223,14 @@ module _ (spec : Spec) (lower : Lower) where
 abbrev pub level : Spec → ℕ → Lower
 level spec zero = bottom
 level spec (suc n) = record {
-    den = den spec (level spec n);
-    val = val spec (level spec n);
-    repeat = repeat_turn spec (level spec n);
-    fold_value = fold_value_turn spec (level spec n);
-    each_value = each_value_turn spec (level spec n);
-    fold = fold_turn spec (level spec n);
-    each = each_turn spec (level spec n) }
+  den = den spec (level spec n);
+  val = val spec (level spec n);
+  repeat = repeat_turn spec (level spec n);
+  fold_value = fold_value_turn spec (level spec n);
+  each_value = each_value_turn spec (level spec n);
+  fold = fold_turn spec (level spec n);
+  each = each_turn spec (level spec n);
+}
 
 -- the value of a form at a depth
 abbrev pub Val : ℕ → Spec → Expr → Env → Valued

@@ -3,11 +3,14 @@ use Rattle.std.specs.Prelude.{ℕ, List, Bool, true, false, bytes_eq, if◌then�
 use Rattle.std.specs.Ordering.{int_eq}
 use Rattle.ddl_base.specs.declared.span.Span.{Span}
 use Rattle.ddl_base.specs.declared.why.Why.TheVariants.{Guard}
-use Rattle.ddl_types.specs.Value.{Value, Stream, number, boolean, unit, nothing, just, tagged}
+use Rattle.ddl_types.specs.Value.{Value, Stream, number, bitdata, boolean, unit, nothing, just, tagged}
+use Rattle.ddl_types.specs.Layout.{Con, named_con, con_of}
 use Rattle.ddl_types.specs.Outcome.{Outcome, Stuck, ends, parsed}
 use Rattle.ddl_typed.specs.Tree.{Pattern, any, at_number, at_truth, at_nothing, at_just, at_tag}
 use Rattle.ddl_typed.specs.Env.{Env, with_value}
 use Rattle.ddl_typed.specs.Valued.{Valued, stuck}
+use Rattle.ddl_typed.specs.Bitdata.{part_fields}
+use Rattle.ddl_typed.specs.Records.{record_of}
 use Rattle.ddl_typed.specs.Primitives.{missed_at}
 
 -- the value has the pattern, with its content, or another one, or no pattern of this kind
@@ -27,6 +30,11 @@ same_truth true b = b
 same_truth false true = false
 same_truth false false = true
 
+-- a tag of a bitdata: that of the constructor which its number fits, with the record of its fields
+abbrev pub by_con : List ℕ → Option Con → ℕ → Matched
+by_con name (Some (named_con other ps)) n = by_test (bytes_eq name other) (record_of (part_fields ps n))
+by_con name None n = has_none
+
 -- whether a value has a pattern; the content is that of a `just` or a tag, else `{}`
 abbrev pub matched : Pattern → Value → Matched
 matched any v = has_it unit
@@ -37,6 +45,7 @@ matched at_nothing (just v) = has_another
 matched (at_just x) nothing = has_another
 matched (at_just x) (just v) = has_it v
 matched (at_tag name x) (tagged other v) = by_test (bytes_eq name other) v
+matched (at_tag name x) (bitdata l n) = by_con name (con_of l n) n
 matched p v = has_none
 
 -- the name of the content

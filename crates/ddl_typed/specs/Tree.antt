@@ -1,6 +1,7 @@
 -- The typed tree, as definitions see it: the forms of typed and of specialised specifications.
 use Rattle.std.specs.Prelude.{ℕ, Bool, List, Option}
 use Rattle.ddl_base.specs.declared.span.Span.{Span}
+use Rattle.ddl_types.specs.Layout.{Layout}
 use Rattle.ddl_types.specs.Types.{Ty}
 use Rattle.ddl_arith.specs.declared.operation.Op.{Op}
 
@@ -206,6 +207,7 @@ pub record Decl : Type 0 where
   pub name : Span
   pub body : Body
 
--- a specification
+-- a specification: its declarations, and the layouts of its bitdata
 pub record Spec : Type 0 where
   pub decls : List Decl
+  pub bits : List Layout

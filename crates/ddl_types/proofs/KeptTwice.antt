@@ -2,7 +2,7 @@
 use Rattle.std.proofs.Common.{◌≡◌, ◌≢◌, ℕ, ◌*◌, ◌≤◌, List, [], ◌∷◌, sym, ◌∙◌, arith}
 use Rattle.std.proofs.Math.Nat.{mul-le-mul_left}
 use Rattle.ddl_types.specs.Outcome.{Deep, ending}
-use Rattle.ddl_types.specs.Keeping.{Mark, StartsWith, StartsWithin, Keeps, KeepsTwice}
+use Rattle.ddl_types.specs.Keeping.{Mark, StartsWith, StartsWithin, KeepsTwice}
 
 starts_on : (as_ bs cs : List Mark) → StartsWith as_ bs → StartsWith bs cs → StartsWith as_ cs
 starts_on [] bs cs p q = tt

@@ -6,6 +6,7 @@ pub mod Cut
 pub mod Growth
 pub mod Joining
 pub mod Keeping
+pub mod Layout
 pub mod Num
 pub mod Outcome
 pub mod Plain

@@ -1,11 +1,12 @@
 -- How a value is printed, and where an outcome is cut.
-use Rattle.std.specs.Prelude.{ℕ, nat_lt, Bool, true, false, List, [], ◌∷◌}
+use Rattle.std.specs.Prelude.{ℕ, nat_lt, Bool, true, false, List, [], ◌∷◌, pos, if◌then◌else◌, Option, Some, None}
 use Rattle.ddl_base.specs.declared.span.Span.{Span}
 use Rattle.ddl_types.specs.Cut.{cut_by}
+use Rattle.ddl_types.specs.Layout.{Layout, Con, Parts, no_cons, one_of, named_con, no_parts, part, fixed, free, inner, upper, lower, con_fits}
 use Rattle.ddl_types.specs.Outcome.{Outcome}
 use Rattle.ddl_types.specs.Plain.{Printable, Printables, deep}
 use Rattle.ddl_types.specs.Plain as p
-use Rattle.ddl_types.specs.Value.{Value, Values, Fields, Pairs, Source, in_input, in_array, number, boolean, unit, nothing, just, fields, tagged, array, mapping, stream, no_values, value, no_fields, field, no_pairs, pair}
+use Rattle.ddl_types.specs.Value.{Value, Values, Fields, Pairs, Source, in_input, in_array, number, bitdata, boolean, unit, nothing, just, fields, tagged, array, mapping, stream, no_values, value, no_fields, field, no_pairs, pair}
 
 -- whether a stream is one of the input
 abbrev pub is_in_input : Source → Bool
@@ -17,10 +18,46 @@ abbrev pub names_of : Fields → List (List ℕ)
 names_of no_fields = []
 names_of (field name v fs) = name ∷ names_of fs
 
+-- the names of the fields of a bitdata's constructor; a part without a name is left out
+abbrev pub part_names : Parts → List (List ℕ)
+part_names no_parts = []
+part_names (part (fixed bits w) ps) = part_names ps
+part_names (part (free (Some name) w) ps) = name ∷ part_names ps
+part_names (part (free None w) ps) = part_names ps
+part_names (part (inner (Some name) l) ps) = name ∷ part_names ps
+part_names (part (inner None l) ps) = part_names ps
+
+-- a constructor's fields under its name; the one of a bitdata written with `=` has none
+abbrev pub under_name : List ℕ → Printable → Printable
+under_name [] v = v
+under_name (b ∷ bs) v = p.union (b ∷ bs) v
+
+-- one more value, where its part has a name
+abbrev pub if_named : Option (List ℕ) → Printable → Printables → Printables
+if_named None v vs = vs
+if_named (Some name) v vs = p.one v vs
+
+-- the printable value of a number that fits a layout: the fields of its constructor, under its name, each a number or
+-- again a bitdata
+abbrev mutual
+  pub plain_bits : Layout → ℕ → Printable
+  plain_bits no_cons n = p.unit
+  plain_bits (one_of c cs) n = if con_fits c n then plain_con c n else plain_bits cs n
+
+  pub plain_con : Con → ℕ → Printable
+  plain_con (named_con name ps) n = under_name name (p.fields (part_names ps) (plain_parts ps n))
+
+  pub plain_parts : Parts → ℕ → Printables
+  plain_parts no_parts n = p.none
+  plain_parts (part (fixed bits w) ps) n = plain_parts ps (lower ps n)
+  plain_parts (part (free name w) ps) n = if_named name (p.number (pos (upper ps n))) (plain_parts ps (lower ps n))
+  plain_parts (part (inner name l) ps) n = if_named name (plain_bits l (upper ps n)) (plain_parts ps (lower ps n))
+
 -- the printable value: a number without its type, a stream without its bytes, all else part by part
 abbrev mutual
   pub plain_of : Value → Printable
   plain_of (number ty z) = p.number z
+  plain_of (bitdata l n) = plain_bits l n
   plain_of (boolean b) = p.bool b
   plain_of unit = p.unit
   plain_of nothing = p.nothing
