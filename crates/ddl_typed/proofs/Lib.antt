@@ -1,4 +1,5 @@
 pub mod Law
+pub mod Layers
 pub mod Rising
 pub mod Rows
 pub mod Telling
