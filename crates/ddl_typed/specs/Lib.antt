@@ -4,6 +4,7 @@ pub mod Env
 pub mod Laws
 pub mod Meaning
 pub mod Primitives
+pub mod SharedView
 pub mod Simple
 pub mod Tree
 pub mod Valued

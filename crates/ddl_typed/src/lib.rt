@@ -3,6 +3,8 @@
 
 mod expr;
 mod laws;
+mod shared;
 
 pub use expr::{TDecl, TExpr, TForm, TItem};
 pub use laws::{answer_law, depth_law};
+pub use shared::{Part, Shared, is_deeper, to_plain};
