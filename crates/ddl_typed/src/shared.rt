@@ -28,6 +28,13 @@ pub struct Part {
     pub value: Rc<Shared>,
 }
 
+/// The value, to be shared.
+pub fn share(alloc: Global, value: Shared) -> Result<Rc<Shared>, NoMemory>
+    ensures { IfOk result (λ shared. shared.value ≡ value) }
+{
+    Ok(Rc::new(alloc, value)?)
+}
+
 /// Whether the JSON of the value nests deeper than `room`.
 #[cycle(deeper)]
 #[tactic(auto, using(crate::proofs::SharedLayers::shared_layers))]
