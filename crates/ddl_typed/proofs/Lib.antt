@@ -1,4 +1,6 @@
+pub mod Answering
 pub mod Building
+pub mod Depthless
 pub mod Items
 pub mod Law
 pub mod Layers
