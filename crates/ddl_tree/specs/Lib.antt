@@ -1,0 +1,14 @@
+pub mod TypeTree
+pub mod ClassTree
+pub mod PatternTree
+pub mod ExprTree
+pub mod ModuleTree
+pub mod Print
+pub mod PrintModule
+pub mod Grammar
+pub mod GrammarModule
+pub mod Depth
+pub mod Spans
+pub mod SpansModule
+pub mod View
+pub mod ViewModule
