@@ -1,0 +1,5 @@
+pub mod Steps
+pub mod Elements
+pub mod Values
+pub mod Named
+pub mod Cutting
