@@ -1,5 +1,5 @@
-pub mod Steps
-pub mod Elements
-pub mod Values
-pub mod Named
 pub mod Cutting
+pub mod Elements
+pub mod Named
+pub mod Steps
+pub mod Values

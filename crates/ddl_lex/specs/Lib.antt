@@ -1,10 +1,10 @@
-pub mod Letters
-pub mod Gives
-pub mod Literals
-pub mod Numbers
-pub mod Names
-pub mod Marks
 pub mod Comments
+pub mod Gives
+pub mod Letters
+pub mod Literals
+pub mod Marks
+pub mod Names
+pub mod Numbers
 pub mod Pieces
 pub mod Places
 pub mod Tokens
