@@ -1,0 +1,5 @@
+pub mod Cutting
+pub mod Elements
+pub mod Named
+pub mod Steps
+pub mod Values

@@ -1,0 +1,10 @@
+pub mod Comments
+pub mod Gives
+pub mod Letters
+pub mod Literals
+pub mod Marks
+pub mod Names
+pub mod Numbers
+pub mod Pieces
+pub mod Places
+pub mod Tokens

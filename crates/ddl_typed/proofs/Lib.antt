@@ -1,0 +1,4 @@
+pub mod Law
+pub mod Rising
+pub mod Rows
+pub mod Telling
