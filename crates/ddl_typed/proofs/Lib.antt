@@ -1,4 +1,10 @@
+pub mod Building
+pub mod Items
 pub mod Law
+pub mod Layers
+pub mod Matching
+pub mod Meant
 pub mod Rising
 pub mod Rows
+pub mod SharedLayers
 pub mod Telling

@@ -1,8 +1,14 @@
+pub mod AnswerView
 pub mod Blocks
 pub mod Denoted
 pub mod Env
+pub mod Evaluated
 pub mod Laws
 pub mod Meaning
 pub mod Primitives
+pub mod SharedView
+pub mod Simple
+pub mod Told
 pub mod Tree
 pub mod Valued
+pub mod View

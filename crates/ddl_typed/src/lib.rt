@@ -1,8 +1,17 @@
 //! The typed tree of a specification, the definitions of its meaning, and an evaluator of its simple forms.
 #![tactic(auto)]
 
+mod answer;
+mod built;
+mod evaluate;
 mod expr;
 mod laws;
+mod shared;
+mod step;
 
+pub use answer::{Answer, Close, Failure, Parse};
+pub use built::Built;
 pub use expr::{TDecl, TExpr, TForm, TItem};
 pub use laws::{answer_law, depth_law};
+pub use shared::{Part, Shared, is_deeper, to_plain};
+pub use step::{Parsed, Stop};
