@@ -3,3 +3,4 @@ pub mod Elements
 pub mod Values
 pub mod Named
 pub mod Cutting
+pub mod Opened
