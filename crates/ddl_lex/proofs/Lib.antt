@@ -3,3 +3,4 @@ pub mod Elements
 pub mod Named
 pub mod Steps
 pub mod Values
+pub mod Opened

@@ -8,3 +8,5 @@ pub mod Numbers
 pub mod Pieces
 pub mod Places
 pub mod Tokens
+pub mod Brackets
+pub mod Layout
