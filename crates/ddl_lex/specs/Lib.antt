@@ -1,5 +1,7 @@
+pub mod Brackets
 pub mod Comments
 pub mod Gives
+pub mod Layout
 pub mod Letters
 pub mod Literals
 pub mod Marks
@@ -8,5 +10,3 @@ pub mod Numbers
 pub mod Pieces
 pub mod Places
 pub mod Tokens
-pub mod Brackets
-pub mod Layout
