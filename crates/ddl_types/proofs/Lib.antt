@@ -1,5 +1,9 @@
+mod TyRows
+pub mod Arguments
 pub mod BestFailureRows
 pub mod Growing
 pub mod Joins
+pub mod NumRows
 pub mod PlainLayers
 pub mod PlainRows
+pub mod TyLayers

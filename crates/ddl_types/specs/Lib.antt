@@ -1,11 +1,15 @@
 pub mod Answer
 pub mod BestFailure
+pub mod CondView
+pub mod Conditions
 pub mod Cut
 pub mod Growth
 pub mod Joining
+pub mod Num
 pub mod Outcome
 pub mod Plain
 pub mod PlainOf
 pub mod PlainView
+pub mod TyView
+pub mod Types
 pub mod Value
-pub mod Whole

@@ -1,7 +1,7 @@
 -- The printable value that a `Plain` holds.
 use Rattle.std.specs.Prelude.{List, [], ◌∷◌, map}
 use Rattle.ddl_types.specs.Plain as p
-use Rattle.ddl_types.specs.Whole.{whole}
+use Rattle.ddl_types.specs.Num.{whole}
 use Rattle.ddl_types.specs.declared.plain.Plain.{Plain, Plain-F, fold-Plain}
 
 abbrev pub printables_of : List p.Printable → p.Printables

@@ -1,10 +1,18 @@
 //! Numbers, faults, types and printable values, and the definitions of values, streams and outcomes.
 #![tactic(auto)]
 
+mod cond;
 mod fault;
 mod num;
 mod plain;
+mod scheme;
+mod substitution;
+mod ty;
 
+pub use cond::Cond;
 pub use fault::Fault;
 pub use num::{Num, NumType};
 pub use plain::Plain;
+pub use scheme::{Instance, Scheme};
+pub use substitution::{apply, apply_cond, instance};
+pub use ty::Ty;
