@@ -21,17 +21,17 @@ bind_same (parse v s o) k k' h = ap (λ p. Both p (Bind o k)) (h v s) ∙ ap (Bo
 
 module _ (decls : List Decl) (lower : Lower) where
   same_value : (e : Expr) (n : ℕ) (env : Env) → IsSimpleValue e n → val decls lower e env ≡ val [] bottom e env
-  same_value (expr (text bs) span) n env h = refl
-  same_value (expr (local x) span) n env h = refl
-  same_value (expr form span) n env h = absurd h
+  same_value (expr (text bs) ty span) n env h = refl
+  same_value (expr (local x) ty span) n env h = refl
+  same_value (expr form ty span) n env h = absurd h
 
   same_text : (e : Expr) (env : Env) → IsText e → val decls lower e env ≡ val [] bottom e env
-  same_text (expr (text bs) span) env h = refl
-  same_text (expr form span) env h = absurd h
+  same_text (expr (text bs) ty span) env h = refl
+  same_text (expr form ty span) env h = absurd h
 
   mutual
     pub same_den : (e : Expr) (n : ℕ) (env : Env) (s : Stream) → IsSimple e n → den decls lower e env s ≡ den [] bottom e env s
-    same_den (expr form span) n env s h = same_form form span n env s h
+    same_den (expr form ty span) n env s h = same_form form span n env s h
 
     same_form : (form : Form) (span : Span) (n : ℕ) (env : Env) (s : Stream) → IsSimpleForm form n → form_den decls lower form span env s ≡ form_den [] bottom form span env s
     same_form (pure e) span n env s h = ap (λ o. tick (then_parse o (λ v. parsed v s))) (same_value e n env h)

@@ -1,11 +1,12 @@
 -- The typed tree, as definitions see it.
 use Rattle.std.specs.Prelude.{ℕ, List}
 use Rattle.ddl_base.specs.declared.span.Span.{Span}
+use Rattle.ddl_types.specs.Types.{Ty}
 
 mutual
-  -- a form with its span
+  -- a form with its type and its span
   pub data Expr : Type 0 where
-    expr : Form → Span → Expr
+    expr : Form → Ty → Span → Expr
 
   -- the value forms `text` and `local`, and the grammar forms after them
   pub data Form : Type 0 where
