@@ -1,6 +1,6 @@
 ghost use Rattle.std.specs.Prelude.{◌≡◌, pos, IfOk};
 ghost use Rattle.serde_json.specs.View.{view};
-ghost use Rattle.ddl_types.specs.Whole.{whole};
+ghost use Rattle.ddl_types.specs.Num.{whole};
 ghost use Rattle.ddl_report.specs.Numbers.{integer_data};
 
 use crate::object::only_value;

@@ -16,7 +16,7 @@ use Rattle.ddl_types.specs.Answer.{answer_of}
 use Rattle.ddl_typed.specs.Tree.{Spec, expr, uint8, cast, keeping, cutting, fits, select, block, no_items, item, plain, let_, at_tag}
 use Rattle.ddl_typed.specs.Patterns.{matched, has_it, has_another}
 use Rattle.ddl_typed.specs.Denoted.{Denoted}
-use Rattle.ddl_typed.proofs.RowForms.{span, main_decl, rest_of, local_at, pure_at, uint_type, ticking, one_parse, no_parse}
+use Rattle.ddl_typed.proofs.RowForms.{span, other, byte_type, unit_type, bool_type, main_decl, rest_of, local_at, pure_at, uint_type, ticking, one_parse, no_parse}
 
 -- bitdata B where { a = 0b00; b = 0b01; c = 0b10 }
 abbrev constant : List ℕ → ℕ → Con
@@ -29,9 +29,9 @@ three = one_of (constant (codes "a") 0) (one_of (constant (codes "b") 1) (one_of
 abbrev as_three : Spec
 as_three = record {
   decls = main_decl (expr (block (
-      item (let_ 0 (expr uint8 (span 76 81)))
-      (item (let_ 1 (pure_at 91 103 (expr (cast cutting (local_at 0 91 92) (uint_type 2)) (span 91 103))))
-      (item (plain (expr (fits (local_at 1 105 106) (con (t.bits 0) none)) (span 105 112))) no_items)))) (span 60 114)) ∷ [];
+      item (let_ 0 (expr uint8 byte_type (span 76 81)))
+      (item (let_ 1 (pure_at 91 103 (expr (cast cutting (local_at 0 91 92)) (uint_type 2) (span 91 103))))
+      (item (plain (expr (fits (local_at 1 105 106)) (con (t.bits 0) none) (span 105 112))) no_items)))) other (span 60 114)) ∷ [];
   bits = three ∷ [];
 }
 
@@ -67,9 +67,9 @@ header_plain = refl
 abbrev kind_of : Spec
 kind_of = record {
   decls = main_decl (expr (block (
-      item (let_ 0 (expr uint8 (span 27 32)))
-      (item (let_ 1 (expr (fits (local_at 0 42 43) (con (t.bits 0) none)) (span 42 49)))
-      (item (plain (pure_at 51 61 (expr (select (local_at 1 54 55) (codes "kind")) (span 54 60)))) no_items)))) (span 11 63)) ∷ [];
+      item (let_ 0 (expr uint8 byte_type (span 27 32)))
+      (item (let_ 1 (expr (fits (local_at 0 42 43)) (con (t.bits 0) none) (span 42 49)))
+      (item (plain (pure_at 51 61 (expr (select (local_at 1 54 55) (codes "kind")) other (span 54 60)))) no_items)))) other (span 11 63)) ∷ [];
   bits = header ∷ three ∷ [];
 }
 

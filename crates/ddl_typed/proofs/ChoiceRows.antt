@@ -10,12 +10,12 @@ use Rattle.ddl_arith.specs.declared.operation.Op.TheVariants.{Add}
 use Rattle.ddl_typed.specs.Tree.{Expr, Spec, expr, uint8, end, paren, infix_, arithmetic, class, range, first, choose, no_alts, alt, tag, many, biased, unbiased, between, exactly, unbounded, optional, call, no_args, block, no_items, item, plain}
 use Rattle.ddl_typed.specs.Primitives.{byte_value}
 use Rattle.ddl_typed.specs.Denoted.{Denoted}
-use Rattle.ddl_typed.proofs.RowForms.{span, main, rest_of, match_text, pure_at, int_at, count_at, an_int, text_value, ticking, one_parse, two_parses, no_parse}
+use Rattle.ddl_typed.proofs.RowForms.{span, other, byte_type, unit_type, bool_type, main, rest_of, match_text, pure_at, int_at, count_at, an_int, text_value, ticking, one_parse, two_parses, no_parse}
 
 -- ---- def Main = Choose { a = UInt8; b = Match "x" }
 
 abbrev both_count : Spec
-both_count = main (expr (choose (tag (codes "a") (expr uint8 (span 24 29)) (tag (codes "b") (match_text (codes "x") 35 41 44) no_alts))) (span 11 46))
+both_count = main (expr (choose (tag (codes "a") (expr uint8 byte_type (span 24 29)) (tag (codes "b") (match_text (codes "x") 35 41 44) no_alts))) other (span 11 46))
 
 -- on `x`: the call, the choice, the byte, leaving; then the match, its text and its byte, leaving
 both_count_on_x : Denoted 1 both_count 0 (codes "x") ≡
@@ -31,8 +31,8 @@ both_count_on_x_answer = refl
 
 abbrev first_wins : Spec
 first_wins = main (expr (block (
-    item (plain (expr (first (tag (codes "a") (match_text (codes "a") 31 37 40) (tag (codes "b") (match_text (codes "ab") 46 52 56) no_alts))) (span 19 58)))
-    (item (plain (expr end (span 60 63))) no_items))) (span 11 65))
+    item (plain (expr (first (tag (codes "a") (match_text (codes "a") 31 37 40) (tag (codes "b") (match_text (codes "ab") 46 52 56) no_alts))) other (span 19 58)))
+    (item (plain (expr end unit_type (span 60 63))) no_items))) other (span 11 65))
 
 -- on `ab`: the second alternative is not tried, though what follows the first one fails
 first_wins_on_ab : Denoted 1 first_wins 0 (codes "ab") ≡ ticking 8 (missed why.End in_input 1 (span 60 63))
@@ -46,9 +46,9 @@ first_wins_on_ab_answer = refl
 abbrev all_of_first : Spec
 all_of_first = main (expr (first (
     tag (codes "x") (expr (first (
-    tag (codes "p") (expr (choose (tag (codes "q") (expr uint8 (span 48 53)) (tag (codes "r") (match_text (codes "a") 59 65 68) no_alts))) (span 35 70))
-    (tag (codes "s") (expr uint8 (span 76 81)) no_alts))) (span 23 83))
-    (tag (codes "y") (expr uint8 (span 89 94)) no_alts))) (span 11 96))
+    tag (codes "p") (expr (choose (tag (codes "q") (expr uint8 byte_type (span 48 53)) (tag (codes "r") (match_text (codes "a") 59 65 68) no_alts))) other (span 35 70))
+    (tag (codes "s") (expr uint8 byte_type (span 76 81)) no_alts))) other (span 23 83))
+    (tag (codes "y") (expr uint8 byte_type (span 89 94)) no_alts))) other (span 11 96))
 
 abbrev under_x_p : Value → Value
 under_x_p v = tagged (codes "x") (tagged (codes "p") v)
@@ -66,7 +66,7 @@ all_of_first_on_a_answer = refl
 -- ---- def Main = Many (2 .. 3) $['a']
 
 abbrev two_or_three : Spec
-two_or_three = main (expr (many biased (between (count_at 2 17 18) (count_at 3 22 23)) (expr (class (range 97 97)) (span 25 31))) (span 11 31))
+two_or_three = main (expr (many biased (between (count_at 2 17 18) (count_at 3 22 23)) (expr (class (range 97 97)) other (span 25 31))) other (span 11 31))
 
 -- on `a`: the call, the form, its two bounds; a turn and its byte; a turn whose byte is absent
 two_or_three_on_a : Denoted 3 two_or_three 0 (codes "a") ≡ ticking 8 (missed why.Class in_input 1 (span 25 31))
@@ -95,7 +95,7 @@ two_or_three_on_aaaa_answer = refl
 abbrev fault_second : Spec
 fault_second = main (expr (choose (
     tag (codes "a") (pure_at 24 27 (int_at 1 26 27))
-    (tag (codes "b") (pure_at 33 80 (expr (paren (expr (infix_ (arithmetic Add) (int_at 170141183460469231731687303715884105727 36 75) (int_at 1 78 79)) (span 36 79))) (span 35 80))) no_alts))) (span 11 82))
+    (tag (codes "b") (pure_at 33 80 (expr (paren (expr (infix_ (arithmetic Add) (int_at 170141183460469231731687303715884105727 36 75) (int_at 1 78 79)) other (span 36 79))) other (span 35 80))) no_alts))) other (span 11 82))
 
 -- a fault is no failure: the first alternative's parse, and then the fault
 fault_second_on_nothing : Denoted 1 fault_second 0 [] ≡
@@ -109,7 +109,7 @@ fault_second_on_nothing_answer = refl
 -- ---- def Main = Choose { ^ 0; Main }
 
 abbrev without_end : Spec
-without_end = main (expr (choose (alt (pure_at 20 23 (int_at 0 22 23)) (alt (expr (call 0 no_args) (span 25 29)) no_alts))) (span 11 31))
+without_end = main (expr (choose (alt (pure_at 20 23 (int_at 0 22 23)) (alt (expr (call 0 no_args) other (span 25 29)) no_alts))) other (span 11 31))
 
 -- five ticks before the first parse, twelve before the second, and then the depth ends
 without_end_at_depth_2 : Denoted 2 without_end 0 [] ≡
@@ -119,14 +119,14 @@ without_end_at_depth_2 = refl
 -- ---- repetition
 
 abbrev zero_or_one : Expr
-zero_or_one = expr (choose (alt (pure_at 27 30 (int_at 0 29 30)) (alt (pure_at 32 35 (int_at 1 34 35)) no_alts))) (span 18 37)
+zero_or_one = expr (choose (alt (pure_at 27 30 (int_at 0 29 30)) (alt (pure_at 32 35 (int_at 1 34 35)) no_alts))) other (span 18 37)
 
 abbrev pair_of : ℕ → ℕ → Value
 pair_of n m = array (value (an_int n) (value (an_int m) no_values))
 
 -- def Main = Many 2 (Choose { ^ 0; ^ 1 }): a form with two parses, repeated; the last one changes first
 abbrev twice : Spec
-twice = main (expr (many biased (exactly (count_at 2 16 17)) (expr (paren zero_or_one) (span 17 38))) (span 11 38))
+twice = main (expr (many biased (exactly (count_at 2 16 17)) (expr (paren zero_or_one) other (span 17 38))) other (span 11 38))
 
 twice_on_nothing : Denoted 4 twice 0 [] ≡
     ticking 15 (parse (pair_of 0 0) (rest_of [] 0 0)
@@ -137,7 +137,7 @@ twice_on_nothing = refl
 
 -- def Main = Many? UInt8: the longest first, and every shorter one too
 abbrev all_lengths : Spec
-all_lengths = main (expr (many unbiased unbounded (expr uint8 (span 17 22))) (span 11 22))
+all_lengths = main (expr (many unbiased unbounded (expr uint8 byte_type (span 17 22))) other (span 11 22))
 
 all_lengths_on_a : Denoted 3 all_lengths 0 (codes "a") ≡
     ticking 6 (miss why.Byte in_input 1 (span 17 22) (tick (parse (text_value (codes "a")) (rest_of (codes "a") 1 1)

@@ -2,6 +2,7 @@
 use Rattle.std.proofs.Common.{ℕ, zero, suc}
 use Rattle.std.specs.Prelude.{Option, None}
 use Rattle.ddl_base.specs.declared.span.Span.{Span}
+use Rattle.ddl_types.specs.Types.{Ty}
 use Rattle.ddl_types.specs.Value.{Value, Values, Fields, Pairs, Stream, boolean, nothing, just, array, no_values, no_pairs, pair}
 use Rattle.ddl_types.specs.Outcome.{Outcome, parsed}
 use Rattle.ddl_types.specs.Growth.{Grows, at_deep, at_stuck, at_tick}
@@ -40,33 +41,33 @@ module _ (spec : Spec) (l l' : Lower) (h : LowerGrows l l') where
 
   mutual
     val_rises : (e : Expr) (env : Env) → Rises (val spec l e env) (val spec l' e env)
-    val_rises (expr form span) env = form_rises form span env
+    val_rises (expr form ty span) env = form_rises form ty span env
 
-    form_rises : (form : Form) (span : Span) (env : Env) → Rises (form_val spec l form span env) (form_val spec l' form span env)
-    form_rises (text bs) span env = rises_same _
-    form_rises (local x) span env = rises_same _
-    form_rises (literal n t) span env = rises_same _
-    form_rises (truth b) span env = rises_same _
-    form_rises nothing_ span env = rises_same _
-    form_rises (just_ e) span env = is_counted (then_value_rises _ _ (val_rises e env) (λ v. rises_same _))
-    form_rises (list es) span env = is_counted (then_value_rises _ _ (vals_rise es env) (λ vs. rises_same _))
-    form_rises (record_ ns) span env = is_counted (then_value_rises _ _ (named_rise ns env) (λ fs. rises_same _))
-    form_rises (union_ name c) span env = is_counted (then_value_rises _ _ (content_rises c env) (λ v. rises_same _))
-    form_rises (select e name) span env = is_counted (then_value_rises _ _ (val_rises e env) (λ v. rises_same _))
-    form_rises (infix_ op a b) span env = is_counted (then_value_rises _ _ (val_rises a env) (λ v. infix_rises op span v (val_rises b env)))
-    form_rises (prefix_ op e) span env = is_counted (then_value_rises _ _ (val_rises e env) (λ v. rises_same _))
-    form_rises (cast c e t) span env = is_counted (then_value_rises _ _ (val_rises e env) (λ v. rises_same _))
-    form_rises (builtin b es) span env = is_counted (then_value_rises _ _ (vals_rise es env) (λ vs. rises_same _))
-    form_rises (value_call f args) span env = is_counted (then_value_rises _ _ (args_rise args env empty) (λ own. then_value_rises _ _ (rises_same _) (λ e. h.val e own)))
-    form_rises (paren e) span env = val_rises e env
-    form_rises (if_ c a b) span env = is_counted (then_value_rises _ _ (val_rises c env) (λ v. branch_rises v (val_rises a env) (val_rises b env)))
-    form_rises (case_ e cs) span env = is_counted (then_value_rises _ _ (val_rises e env) (λ v. case_rises cs v env))
-    form_rises (for_ x start names e body) span env =
+    form_rises : (form : Form) (ty : Ty) (span : Span) (env : Env) → Rises (form_val spec l form ty span env) (form_val spec l' form ty span env)
+    form_rises (text bs) ty span env = rises_same _
+    form_rises (local x) ty span env = rises_same _
+    form_rises (literal n) ty span env = rises_same _
+    form_rises (truth b) ty span env = rises_same _
+    form_rises nothing_ ty span env = rises_same _
+    form_rises (just_ e) ty span env = is_counted (then_value_rises _ _ (val_rises e env) (λ v. rises_same _))
+    form_rises (list es) ty span env = is_counted (then_value_rises _ _ (vals_rise es env) (λ vs. rises_same _))
+    form_rises (record_ ns) ty span env = is_counted (then_value_rises _ _ (named_rise ns env) (λ fs. rises_same _))
+    form_rises (union_ name c) ty span env = is_counted (then_value_rises _ _ (content_rises c env) (λ v. rises_same _))
+    form_rises (select e name) ty span env = is_counted (then_value_rises _ _ (val_rises e env) (λ v. rises_same _))
+    form_rises (infix_ op a b) ty span env = is_counted (then_value_rises _ _ (val_rises a env) (λ v. infix_rises op span v (val_rises b env)))
+    form_rises (prefix_ op e) ty span env = is_counted (then_value_rises _ _ (val_rises e env) (λ v. rises_same _))
+    form_rises (cast c e) ty span env = is_counted (then_value_rises _ _ (val_rises e env) (λ v. rises_same _))
+    form_rises (builtin b es) ty span env = is_counted (then_value_rises _ _ (vals_rise es env) (λ vs. rises_same _))
+    form_rises (value_call f args) ty span env = is_counted (then_value_rises _ _ (args_rise args env empty) (λ own. then_value_rises _ _ (rises_same _) (λ e. h.val e own)))
+    form_rises (paren e) ty span env = val_rises e env
+    form_rises (if_ c a b) ty span env = is_counted (then_value_rises _ _ (val_rises c env) (λ v. branch_rises v (val_rises a env) (val_rises b env)))
+    form_rises (case_ e cs) ty span env = is_counted (then_value_rises _ _ (val_rises e env) (λ v. case_rises cs v env))
+    form_rises (for_ x start names e body) ty span env =
         is_counted (then_value_rises _ _ (val_rises start env) (λ v. then_value_rises _ _ (val_rises e env) (λ w. then_value_rises _ _ (rises_same _) (λ ps. folds_rise _ env v ps))))
-    form_rises (map_ names e body) span env =
+    form_rises (map_ names e body) ty span env =
         is_counted (then_value_rises _ _ (val_rises e env) (λ w. then_value_rises _ _ (rises_same (elements_of w)) (λ ps.
         then_value_rises _ _ (eaches_rise (record { names = names; body = body; over_map = is_map w }) env no_pairs ps) (λ done. rises_same (gives (gathered (is_map w) done))))))
-    form_rises _ span env = is_stuck
+    form_rises _ ty span env = is_stuck
 
     vals_rise : (es : Exprs) (env : Env) → Rises (vals spec l es env) (vals spec l' es env)
     vals_rise no_exprs env = rises_same _
@@ -110,34 +111,34 @@ module _ (spec : Spec) (l l' : Lower) (h : LowerGrows l l') where
 
   mutual
     den_grows : (e : Expr) (env : Env) (s : Stream) → Grows (den spec l e env s) (den spec l' e env s)
-    den_grows (expr form span) env s = form_grows form span env s
+    den_grows (expr form ty span) env s = form_grows form ty span env s
 
-    form_grows : (form : Form) (span : Span) (env : Env) (s : Stream) → Grows (form_den spec l form span env s) (form_den spec l' form span env s)
-    form_grows (pure e) span env s = at_tick (then_parse_grows _ _ (val_rises e env) (λ v. grows_same _))
-    form_grows uint8 span env s = grows_same _
-    form_grows (match e) span env s = at_tick (then_parse_grows _ _ (val_rises e env) (λ v. grows_same _))
-    form_grows (text bs) span env s = grows_same _
-    form_grows end span env s = grows_same _
-    form_grows (class c) span env s = grows_same _
-    form_grows (fail n) span env s = grows_same _
-    form_grows (primitive p es) span env s = at_tick (then_parse_grows _ _ (vals_rise es env) (λ vs. grows_same _))
-    form_grows (is_ e p) span env s = at_tick (then_parse_grows _ _ (val_rises e env) (λ v. grows_same _))
-    form_grows (fits e t) span env s = at_tick (then_parse_grows _ _ (val_rises e env) (λ v. grows_same _))
-    form_grows (paren e) span env s = den_grows e env s
-    form_grows (block is) span env s = at_tick (leave_grows (items_grow is env nothing_built s))
-    form_grows (first as_) span env s = at_tick (leave_grows (of_some_grows as_ (first_grows as_ env s)))
-    form_grows (choose as_) span env s = at_tick (leave_grows (of_some_grows as_ (choose_grows as_ env s)))
-    form_grows (many c b p) span env s = at_tick (then_parse_grows _ _ (limits_rise b env) (λ m. leave_grows (h.repeat _ env no_values s)))
-    form_grows (optional c p) span env s = at_tick (leave_grows (or_nothing_grows c s (den_grows p env s)))
-    form_grows (if_ c p q) span env s = at_tick (then_parse_grows _ _ (val_rises c env) (λ v. leave_grows (branch_grows v (den_grows p env s) (den_grows q env s))))
-    form_grows (case_ e cs) span env s = at_tick (then_parse_grows _ _ (val_rises e env) (λ v. leave_grows (case_grows cs v span env s)))
-    form_grows (for_ x start names e p) span env s =
+    form_grows : (form : Form) (ty : Ty) (span : Span) (env : Env) (s : Stream) → Grows (form_den spec l form ty span env s) (form_den spec l' form ty span env s)
+    form_grows (pure e) ty span env s = at_tick (then_parse_grows _ _ (val_rises e env) (λ v. grows_same _))
+    form_grows uint8 ty span env s = grows_same _
+    form_grows (match e) ty span env s = at_tick (then_parse_grows _ _ (val_rises e env) (λ v. grows_same _))
+    form_grows (text bs) ty span env s = grows_same _
+    form_grows end ty span env s = grows_same _
+    form_grows (class c) ty span env s = grows_same _
+    form_grows (fail n) ty span env s = grows_same _
+    form_grows (primitive p es) ty span env s = at_tick (then_parse_grows _ _ (vals_rise es env) (λ vs. grows_same _))
+    form_grows (is_ e p) ty span env s = at_tick (then_parse_grows _ _ (val_rises e env) (λ v. grows_same _))
+    form_grows (fits e) ty span env s = at_tick (then_parse_grows _ _ (val_rises e env) (λ v. grows_same _))
+    form_grows (paren e) ty span env s = den_grows e env s
+    form_grows (block is) ty span env s = at_tick (leave_grows (items_grow is env nothing_built s))
+    form_grows (first as_) ty span env s = at_tick (leave_grows (of_some_grows as_ (first_grows as_ env s)))
+    form_grows (choose as_) ty span env s = at_tick (leave_grows (of_some_grows as_ (choose_grows as_ env s)))
+    form_grows (many c b p) ty span env s = at_tick (then_parse_grows _ _ (limits_rise b env) (λ m. leave_grows (h.repeat _ env no_values s)))
+    form_grows (optional c p) ty span env s = at_tick (leave_grows (or_nothing_grows c s (den_grows p env s)))
+    form_grows (if_ c p q) ty span env s = at_tick (then_parse_grows _ _ (val_rises c env) (λ v. leave_grows (branch_grows v (den_grows p env s) (den_grows q env s))))
+    form_grows (case_ e cs) ty span env s = at_tick (then_parse_grows _ _ (val_rises e env) (λ v. leave_grows (case_grows cs v span env s)))
+    form_grows (for_ x start names e p) ty span env s =
         at_tick (then_parse_grows _ _ (val_rises start env) (λ v. then_parse_grows _ _ (val_rises e env) (λ w. then_parse_grows _ _ (rises_same _) (λ ps. leave_grows (folds_grow _ env v ps s)))))
-    form_grows (map_ names e p) span env s =
+    form_grows (map_ names e p) ty span env s =
         at_tick (then_parse_grows _ _ (val_rises e env) (λ w. then_parse_grows _ _ (rises_same _) (λ ps. leave_grows (eaches_grow _ env no_pairs ps s))))
-    form_grows (call f args) span env s = at_tick (then_parse_grows _ _ (args_rise args env empty) (λ own. then_parse_grows _ _ (rises_same _) (λ p. leave_grows (h.den p own s))))
-    form_grows (parameter x) span env s = at_tick (then_parse_grows _ _ (rises_same _) (λ c. leave_grows (h.den c.form c.env s)))
-    form_grows _ span env s = at_stuck
+    form_grows (call f args) ty span env s = at_tick (then_parse_grows _ _ (args_rise args env empty) (λ own. then_parse_grows _ _ (rises_same _) (λ p. leave_grows (h.den p own s))))
+    form_grows (parameter x) ty span env s = at_tick (then_parse_grows _ _ (rises_same _) (λ c. leave_grows (h.den c.form c.env s)))
+    form_grows _ ty span env s = at_stuck
 
     items_grow : (is : Items) (env : Env) (b : Built) (s : Stream) → Grows (den_items spec l is env b s) (den_items spec l' is env b s)
     items_grow no_items env b s = grows_same _

@@ -1,6 +1,7 @@
 -- An outcome that ends without a parse has a failure: one line a form.
 use Rattle.std.proofs.Common.{ℕ, zero, suc, List, [], ◌∷◌}
 use Rattle.ddl_base.specs.declared.span.Span.{Span}
+use Rattle.ddl_types.specs.Types.{Ty}
 use Rattle.ddl_types.specs.Value.{Value, Values, Pairs, Stream, nothing, just, array, no_values, no_pairs, pair}
 use Rattle.std.specs.Prelude.{if◌then◌else◌}
 use Rattle.ddl_types.specs.Outcome.{Outcome, parsed}
@@ -20,7 +21,7 @@ use Rattle.ddl_typed.specs.Blocks.{Built, nothing_built, with_part, bound}
 use Rattle.ddl_typed.specs.Choices.{branch, of_some, under_tag, or_nothing}
 use Rattle.ddl_typed.specs.Meaning.{level, val, vals, args_env, limits_of, called, folds, eaches, den, form_den, den_items, den_item, den_first, den_choose, den_case, fold_turn, each_turn, on_or_stop, repeat_turn, decl_at, Den, Run}
 use Rattle.ddl_typed.specs.Denoted.{Denoted, whole_input, SaysWhy}
-use Rattle.ddl_typed.proofs.Told.{IsTold, says_why, both_told, biased_told, bind_told, leave_told, choice_told, cut_told, then_parse_told}
+use Rattle.ddl_typed.proofs.TellingJoins.{IsTold, says_why, both_told, biased_told, bind_told, leave_told, choice_told, cut_told, then_parse_told}
 use Rattle.ddl_typed.proofs.TellingParts.{one_byte_told, at_end_told, match_bytes_told, match_value_told, class_told, primitive_told, fitted_told, outcome_at_told, guarded_told, branch_told, under_tag_told, or_nothing_told}
 
 -- so do calls and turns at the depth below
@@ -41,39 +42,39 @@ module _ (spec : Spec) (l : Lower) (h : LowerTold l) where
 
   mutual
     den_told : (e : Expr) (env : Env) (s : Stream) → IsTold (den spec l e env s)
-    den_told (expr form span) env s = form_told form span env s
+    den_told (expr form ty span) env s = form_told form ty span env s
 
-    form_told : (form : Form) (span : Span) (env : Env) (s : Stream) → IsTold (form_den spec l form span env s)
-    form_told (pure e) span env s = then_parse_told (val spec l e env) _ (λ v. tt)
-    form_told uint8 span env s = one_byte_told span s
-    form_told (match e) span env s = then_parse_told (val spec l e env) _ (λ v. match_value_told v span s)
-    form_told (text bs) span env s = match_bytes_told bs _ span s
-    form_told end span env s = at_end_told span s
-    form_told (class c) span env s = class_told (class_set spec c env) span s
-    form_told (fail n) span env s = tt
-    form_told (primitive p es) span env s = then_parse_told (vals spec l es env) _ (λ vs. primitive_told p vs span s)
-    form_told (is_ e p) span env s = then_parse_told (val spec l e env) _ (λ v. guarded_told p v span s)
-    form_told (fits e t) span env s = then_parse_told (val spec l e env) _ (λ v. fitted_told (fit (target spec.bits (closed env t)) v) span s)
-    form_told (paren e) span env s = den_told e env s
-    form_told (block is) span env s = leave_told (den_items spec l is env nothing_built s) (items_told is env nothing_built s)
-    form_told (first as_) span env s = leave_told (of_some as_ (den_first spec l as_ env s)) (first_told as_ env s)
-    form_told (choose as_) span env s = leave_told (of_some as_ (den_choose spec l as_ env s)) (choose_told as_ env s)
-    form_told (many c b p) span env s = then_parse_told (limits_of spec l b env) _ (λ m.
+    form_told : (form : Form) (ty : Ty) (span : Span) (env : Env) (s : Stream) → IsTold (form_den spec l form ty span env s)
+    form_told (pure e) ty span env s = then_parse_told (val spec l e env) _ (λ v. tt)
+    form_told uint8 ty span env s = one_byte_told span s
+    form_told (match e) ty span env s = then_parse_told (val spec l e env) _ (λ v. match_value_told v span s)
+    form_told (text bs) ty span env s = match_bytes_told bs _ span s
+    form_told end ty span env s = at_end_told span s
+    form_told (class c) ty span env s = class_told (class_set spec c env) span s
+    form_told (fail n) ty span env s = tt
+    form_told (primitive p es) ty span env s = then_parse_told (vals spec l es env) _ (λ vs. primitive_told p vs span s)
+    form_told (is_ e p) ty span env s = then_parse_told (val spec l e env) _ (λ v. guarded_told p v span s)
+    form_told (fits e) ty span env s = then_parse_told (val spec l e env) _ (λ v. fitted_told (fit (target spec.bits (closed env ty)) v) span s)
+    form_told (paren e) ty span env s = den_told e env s
+    form_told (block is) ty span env s = leave_told (den_items spec l is env nothing_built s) (items_told is env nothing_built s)
+    form_told (first as_) ty span env s = leave_told (of_some as_ (den_first spec l as_ env s)) (first_told as_ env s)
+    form_told (choose as_) ty span env s = leave_told (of_some as_ (den_choose spec l as_ env s)) (choose_told as_ env s)
+    form_told (many c b p) ty span env s = then_parse_told (limits_of spec l b env) _ (λ m.
         let r : Repetition = record { choice = c; limits = m; body = p } in leave_told (l.repeat r env no_values s) (h.repeat r env no_values s))
-    form_told (optional c p) span env s = leave_told (or_nothing c (den spec l p env s) s) (or_nothing_told c (den spec l p env s) s (den_told p env s))
-    form_told (if_ c p q) span env s =
+    form_told (optional c p) ty span env s = leave_told (or_nothing c (den spec l p env s) s) (or_nothing_told c (den spec l p env s) s (den_told p env s))
+    form_told (if_ c p q) ty span env s =
         then_parse_told (val spec l c env) _ (λ v. leave_told (branch v (den spec l p env s) (den spec l q env s)) (branch_told v (den spec l p env s) (den spec l q env s) (den_told p env s) (den_told q env s)))
-    form_told (case_ e cs) span env s = then_parse_told (val spec l e env) _ (λ v. leave_told (den_case spec l cs v span env s) (case_told cs v span env s))
-    form_told (for_ x start names e p) span env s =
+    form_told (case_ e cs) ty span env s = then_parse_told (val spec l e env) _ (λ v. leave_told (den_case spec l cs v span env s) (case_told cs v span env s))
+    form_told (for_ x start names e p) ty span env s =
         then_parse_told (val spec l start env) _ (λ v. then_parse_told (val spec l e env) _ (λ w. then_parse_told (elements_of w) _ (λ ps.
         let f : Fold = record { result = x; names = names; body = p } in leave_told (folds spec l f env v ps s) (folds_told f env v ps s))))
-    form_told (map_ names e p) span env s =
+    form_told (map_ names e p) ty span env s =
         then_parse_told (val spec l e env) _ (λ w. then_parse_told (elements_of w) _ (λ ps.
         let m : Each = record { names = names; body = p; over_map = is_map w } in leave_told (eaches spec l m env no_pairs ps s) (eaches_told m env no_pairs ps s)))
-    form_told (call f args) span env s =
+    form_told (call f args) ty span env s =
         then_parse_told (args_env spec l args env empty) _ (λ own. then_parse_told (called spec f) _ (λ p. leave_told (l.den p own s) (h.den p own s)))
-    form_told (parameter x) span env s = then_parse_told (given (grammar_in env x)) _ (λ c. leave_told (l.den c.form c.env s) (h.den c.form c.env s))
-    form_told _ span env s = tt
+    form_told (parameter x) ty span env s = then_parse_told (given (grammar_in env x)) _ (λ c. leave_told (l.den c.form c.env s) (h.den c.form c.env s))
+    form_told _ ty span env s = tt
 
     items_told : (is : Items) (env : Env) (b : Built) (s : Stream) → IsTold (den_items spec l is env b s)
     items_told no_items env b s = tt

@@ -15,7 +15,7 @@ use Rattle.ddl_typed.specs.Classes.{Set, class_byte}
 use Rattle.ddl_typed.specs.Casts.{Fit, fitting, unfit, no_cast, fitted}
 use Rattle.ddl_typed.specs.Patterns.{Matched, has_it, has_another, has_none, matched, outcome_at, guarded}
 use Rattle.ddl_typed.specs.Choices.{branch, under_tag, under_just, chosen, or_nothing, of_some}
-use Rattle.ddl_typed.proofs.Told.{IsTold, both_told, biased_told, bind_told, choice_told, then_parse_told}
+use Rattle.ddl_typed.proofs.TellingJoins.{IsTold, both_told, biased_told, bind_told, choice_told, then_parse_told}
 
 pub one_byte_told : (span : Span) (s : Stream) → IsTold (one_byte span s)
 one_byte_told span s = choice_told (has_byte s) _ _ tt tt

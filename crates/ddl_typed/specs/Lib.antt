@@ -1,3 +1,4 @@
+pub mod AnswerView
 pub mod Arrays
 pub mod Bitdata
 pub mod Blocks
@@ -8,6 +9,7 @@ pub mod Classes
 pub mod Comparisons
 pub mod Denoted
 pub mod Env
+pub mod Evaluated
 pub mod Laws
 pub mod Loops
 pub mod Lower
@@ -19,6 +21,10 @@ pub mod Patterns
 pub mod Primitives
 pub mod Records
 pub mod Repetition
+pub mod SharedView
+pub mod Simple
 pub mod Streams
+pub mod Told
 pub mod Tree
 pub mod Valued
+pub mod View

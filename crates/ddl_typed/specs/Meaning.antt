@@ -2,6 +2,7 @@
 use Rattle.std.specs.Prelude.{ℕ, zero, suc, if◌then◌else◌, List, [], ◌∷◌, Option, Some, None}
 use Rattle.ddl_base.specs.declared.span.Span.{Span}
 use Rattle.ddl_base.specs.declared.why.Why.TheVariants as why
+use Rattle.ddl_types.specs.Types.{Ty}
 use Rattle.ddl_types.specs.Value.{Value, Values, Fields, Pairs, Stream, boolean, unit, nothing, just, tagged, array, fields, no_values, value, no_fields, no_pairs, pair}
 use Rattle.ddl_types.specs.Value as values
 use Rattle.ddl_types.specs.Outcome.{Outcome, Deep, Stuck, ends, tick, parsed, nothing_more}
@@ -53,33 +54,33 @@ module _ (spec : Spec) (lower : Lower) where
   abbrev mutual
     -- the ticks and the value of a form in an environment
     pub val : Expr → Env → Valued
-    val (expr form span) env = form_val form span env
+    val (expr form ty span) env = form_val form ty span env
 
     -- each form begins with one tick, but for parentheses
-    pub form_val : Form → Span → Env → Valued
-    form_val (text bs) span env = counts (gives (array (byte_values bs)))
-    form_val (local x) span env = counts (lookup env x)
-    form_val (literal n t) span env = counts (number_at n (number_type (closed env t)))
-    form_val (truth b) span env = counts (gives (boolean b))
-    form_val nothing_ span env = counts (gives nothing)
-    form_val (just_ e) span env = counts (then_value (val e env) (λ v. gives (just v)))
-    form_val (list es) span env = counts (then_value (vals es env) (λ vs. gives (array vs)))
-    form_val (record_ ns) span env = counts (then_value (named_vals ns env) (λ fs. gives (record_of fs)))
-    form_val (union_ name c) span env = counts (then_value (content_val c env) (λ v. gives (tagged name v)))
-    form_val (select e name) span env = counts (then_value (val e env) (λ v. selected name v))
-    form_val (infix_ op a b) span env = counts (then_value (val a env) (λ v. infix_value op span v (val b env)))
-    form_val (prefix_ op e) span env = counts (then_value (val e env) (λ v. prefix_value op span v))
-    form_val (cast c e t) span env = counts (then_value (val e env) (λ v. cast_value c (target spec.bits (closed env t)) v))
-    form_val (builtin b es) span env = counts (then_value (vals es env) (λ vs. builtin_value b vs))
-    form_val (value_call f args) span env = counts (then_value (args_env args env empty) (λ own. then_value (called spec f) (λ e. lower.val e own)))
-    form_val (paren e) span env = val e env
-    form_val (if_ c a b) span env = counts (then_value (val c env) (λ v. branch_value v (val a env) (val b env)))
-    form_val (case_ e cs) span env = counts (then_value (val e env) (λ v. case_val cs v env))
-    form_val (for_ x start names e body) span env =
+    pub form_val : Form → Ty → Span → Env → Valued
+    form_val (text bs) ty span env = counts (gives (array (byte_values bs)))
+    form_val (local x) ty span env = counts (lookup env x)
+    form_val (literal n) ty span env = counts (number_at n (number_type (closed env ty)))
+    form_val (truth b) ty span env = counts (gives (boolean b))
+    form_val nothing_ ty span env = counts (gives nothing)
+    form_val (just_ e) ty span env = counts (then_value (val e env) (λ v. gives (just v)))
+    form_val (list es) ty span env = counts (then_value (vals es env) (λ vs. gives (array vs)))
+    form_val (record_ ns) ty span env = counts (then_value (named_vals ns env) (λ fs. gives (record_of fs)))
+    form_val (union_ name c) ty span env = counts (then_value (content_val c env) (λ v. gives (tagged name v)))
+    form_val (select e name) ty span env = counts (then_value (val e env) (λ v. selected name v))
+    form_val (infix_ op a b) ty span env = counts (then_value (val a env) (λ v. infix_value op span v (val b env)))
+    form_val (prefix_ op e) ty span env = counts (then_value (val e env) (λ v. prefix_value op span v))
+    form_val (cast c e) ty span env = counts (then_value (val e env) (λ v. cast_value c (target spec.bits (closed env ty)) v))
+    form_val (builtin b es) ty span env = counts (then_value (vals es env) (λ vs. builtin_value b vs))
+    form_val (value_call f args) ty span env = counts (then_value (args_env args env empty) (λ own. then_value (called spec f) (λ e. lower.val e own)))
+    form_val (paren e) ty span env = val e env
+    form_val (if_ c a b) ty span env = counts (then_value (val c env) (λ v. branch_value v (val a env) (val b env)))
+    form_val (case_ e cs) ty span env = counts (then_value (val e env) (λ v. case_val cs v env))
+    form_val (for_ x start names e body) ty span env =
         counts (then_value (val start env) (λ v. then_value (val e env) (λ w. then_value (elements_of w) (λ ps. fold_values (record { result = x; names = names; body = body }) env v ps))))
-    form_val (map_ names e body) span env =
+    form_val (map_ names e body) ty span env =
         counts (then_value (val e env) (λ w. then_value (elements_of w) (λ ps. then_value (each_values (record { names = names; body = body; over_map = is_map w }) env no_pairs ps) (λ done. gives (gathered (is_map w) done)))))
-    form_val form span env = stuck
+    form_val form ty span env = stuck
 
     -- the values of forms, from left to right
     pub vals : Exprs → Env → Given Values
@@ -130,37 +131,37 @@ module _ (spec : Spec) (lower : Lower) where
   abbrev mutual
     -- the outcome of a form in an environment on a stream
     pub den : Expr → Env → Stream → Outcome
-    den (expr form span) env s = form_den form span env s
+    den (expr form ty span) env s = form_den form ty span env s
 
     -- each form begins with one tick, but for parentheses, and a form with grammars as its parts has one more for each
     -- parse that leaves it
-    pub form_den : Form → Span → Env → Stream → Outcome
-    form_den (pure e) span env s = tick (then_parse (val e env) (λ v. parsed v s))
-    form_den uint8 span env s = tick (one_byte span s)
-    form_den (match e) span env s = tick (then_parse (val e env) (λ v. match_value v span s))
-    form_den (text bs) span env s = tick (match_bytes bs (array (byte_values bs)) span s)
-    form_den end span env s = tick (at_end span s)
-    form_den (class c) span env s = tick (class_byte (class_set spec c env) span s)
-    form_den (fail n) span env s = tick (missed_at (why.Said n) s span)
-    form_den (primitive p es) span env s = tick (then_parse (vals es env) (λ vs. primitive_outcome p vs span s))
-    form_den (is_ e p) span env s = tick (then_parse (val e env) (λ v. guarded p v span s))
-    form_den (fits e t) span env s = tick (then_parse (val e env) (λ v. fitted (fit (target spec.bits (closed env t)) v) span s))
-    form_den (paren e) span env s = den e env s
-    form_den (block is) span env s = tick (leave (den_items is env nothing_built s))
-    form_den (first as_) span env s = tick (leave (of_some as_ (den_first as_ env s)))
-    form_den (choose as_) span env s = tick (leave (of_some as_ (den_choose as_ env s)))
-    form_den (many c b p) span env s =
+    pub form_den : Form → Ty → Span → Env → Stream → Outcome
+    form_den (pure e) ty span env s = tick (then_parse (val e env) (λ v. parsed v s))
+    form_den uint8 ty span env s = tick (one_byte span s)
+    form_den (match e) ty span env s = tick (then_parse (val e env) (λ v. match_value v span s))
+    form_den (text bs) ty span env s = tick (match_bytes bs (array (byte_values bs)) span s)
+    form_den end ty span env s = tick (at_end span s)
+    form_den (class c) ty span env s = tick (class_byte (class_set spec c env) span s)
+    form_den (fail n) ty span env s = tick (missed_at (why.Said n) s span)
+    form_den (primitive p es) ty span env s = tick (then_parse (vals es env) (λ vs. primitive_outcome p vs span s))
+    form_den (is_ e p) ty span env s = tick (then_parse (val e env) (λ v. guarded p v span s))
+    form_den (fits e) ty span env s = tick (then_parse (val e env) (λ v. fitted (fit (target spec.bits (closed env ty)) v) span s))
+    form_den (paren e) ty span env s = den e env s
+    form_den (block is) ty span env s = tick (leave (den_items is env nothing_built s))
+    form_den (first as_) ty span env s = tick (leave (of_some as_ (den_first as_ env s)))
+    form_den (choose as_) ty span env s = tick (leave (of_some as_ (den_choose as_ env s)))
+    form_den (many c b p) ty span env s =
         tick (then_parse (limits_of b env) (λ l. leave (lower.repeat (record { choice = c; limits = l; body = p }) env no_values s)))
-    form_den (optional c p) span env s = tick (leave (or_nothing c (den p env s) s))
-    form_den (if_ c p q) span env s = tick (then_parse (val c env) (λ v. leave (branch v (den p env s) (den q env s))))
-    form_den (case_ e cs) span env s = tick (then_parse (val e env) (λ v. leave (den_case cs v span env s)))
-    form_den (for_ x start names e p) span env s =
+    form_den (optional c p) ty span env s = tick (leave (or_nothing c (den p env s) s))
+    form_den (if_ c p q) ty span env s = tick (then_parse (val c env) (λ v. leave (branch v (den p env s) (den q env s))))
+    form_den (case_ e cs) ty span env s = tick (then_parse (val e env) (λ v. leave (den_case cs v span env s)))
+    form_den (for_ x start names e p) ty span env s =
         tick (then_parse (val start env) (λ v. then_parse (val e env) (λ w. then_parse (elements_of w) (λ ps. leave (folds (record { result = x; names = names; body = p }) env v ps s)))))
-    form_den (map_ names e p) span env s =
+    form_den (map_ names e p) ty span env s =
         tick (then_parse (val e env) (λ w. then_parse (elements_of w) (λ ps. leave (eaches (record { names = names; body = p; over_map = is_map w }) env no_pairs ps s))))
-    form_den (call f args) span env s = tick (then_parse (args_env args env empty) (λ own. then_parse (called spec f) (λ p. leave (lower.den p own s))))
-    form_den (parameter x) span env s = tick (then_parse (given (grammar_in env x)) (λ c. leave (lower.den c.form c.env s)))
-    form_den form span env s = ends Stuck
+    form_den (call f args) ty span env s = tick (then_parse (args_env args env empty) (λ own. then_parse (called spec f) (λ p. leave (lower.den p own s))))
+    form_den (parameter x) ty span env s = tick (then_parse (given (grammar_in env x)) (λ c. leave (lower.den c.form c.env s)))
+    form_den form ty span env s = ends Stuck
 
     -- the items in order, each on what the one before left
     pub den_items : Items → Env → Built → Stream → Outcome

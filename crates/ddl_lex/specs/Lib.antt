@@ -1,0 +1,12 @@
+pub mod Brackets
+pub mod Comments
+pub mod Gives
+pub mod Layout
+pub mod Letters
+pub mod Literals
+pub mod Marks
+pub mod Names
+pub mod Numbers
+pub mod Pieces
+pub mod Places
+pub mod Tokens
