@@ -6,6 +6,7 @@ pub mod Law
 pub mod Layers
 pub mod Matching
 pub mod Meant
+pub mod Paired
 pub mod Rising
 pub mod Rows
 pub mod SharedLayers
