@@ -7,6 +7,7 @@ use Rattle.std.specs.declared.rc.Rc.{Rc}
 use Rattle.ddl_base.specs.declared.span.Span.{Span}
 use Rattle.ddl_base.specs.declared.why.Why.{Why}
 use Rattle.ddl_types.specs.Value.{Value, Source, array}
+use Rattle.ddl_types.specs.Types.{Ty}
 use Rattle.ddl_types.specs.Outcome.{parsed, missed}
 use Rattle.ddl_typed.specs.Tree.{item, expr, text, local}
 use Rattle.ddl_typed.specs.Env.{Env, empty, with_value}
@@ -84,12 +85,12 @@ scope_at scope x rc h e =
     ∙ ap gives (get_or-map rc_view scope x rc (rc_view rc) h ∙ ap rc_view (sym e))
 
 -- what a simple value form gives
-pub value_text : (bs : List ℕ) (span : Span) (env : Env) → simple_value_of (expr (text bs) span) env ≡ counts (gives (array (byte_values bs)))
+pub value_text : (bs : List ℕ) (ty : Ty) (span : Span) (env : Env) → simple_value_of (expr (text bs) ty span) env ≡ counts (gives (array (byte_values bs)))
 unfolding simple_value_of
-value_text bs span env = refl
+value_text bs ty span env = refl
 
-pub value_name : (x : ℕ) (span : Span) (env : Env) (v : Value) → lookup env x ≡ gives v → simple_value_of (expr (local x) span) env ≡ counts (gives v)
+pub value_name : (x : ℕ) (ty : Ty) (span : Span) (env : Env) (v : Value) → lookup env x ≡ gives v → simple_value_of (expr (local x) ty span) env ≡ counts (gives v)
 unfolding simple_value_of
-value_name x span env v h = ap counts h
+value_name x ty span env v h = ap counts h
 
 pub ruleset scopes = (scope_push, take_push, scope_at, value_text, value_name)

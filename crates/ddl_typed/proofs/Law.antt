@@ -22,7 +22,7 @@ record LowerGrows (l l' : Lower) : Type 0 where
 module _ (decls : List Decl) (l l' : Lower) (h : LowerGrows l l') where
   mutual
     val_rises : (e : Expr) (env : Env) → Rises (val decls l e env) (val decls l' e env)
-    val_rises (expr form span) env = form_val_rises form span env
+    val_rises (expr form ty span) env = form_val_rises form span env
 
     form_val_rises : (form : Form) (span : Span) (env : Env) → Rises (form_val decls l form span env) (form_val decls l' form span env)
     form_val_rises (text bs) span env = rises_same _
@@ -31,7 +31,7 @@ module _ (decls : List Decl) (l l' : Lower) (h : LowerGrows l l') where
 
   mutual
     den_grows : (e : Expr) (env : Env) (s : Stream) → Grows (den decls l e env s) (den decls l' e env s)
-    den_grows (expr form span) env s = form_den_grows form span env s
+    den_grows (expr form ty span) env s = form_den_grows form span env s
 
     form_den_grows : (form : Form) (span : Span) (env : Env) (s : Stream) → Grows (form_den decls l form span env s) (form_den decls l' form span env s)
     form_den_grows (pure e) span env s = at_tick (then_parse_grows _ _ (val_rises e env) (λ v. grows_same _))

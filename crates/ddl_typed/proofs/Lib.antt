@@ -1,9 +1,12 @@
+pub mod Answering
 pub mod Building
+pub mod Depthless
 pub mod Items
 pub mod Law
 pub mod Layers
 pub mod Matching
 pub mod Meant
+pub mod Paired
 pub mod Rising
 pub mod Rows
 pub mod SharedLayers

@@ -4,6 +4,7 @@ use Rattle.ddl_base.specs.declared.span.Span.{Span}
 use Rattle.ddl_base.specs.declared.why.Why.{Why}
 use Rattle.ddl_base.specs.declared.why.Why.TheVariants as why
 use Rattle.ddl_types.specs.Value.{Value, Stream, Source, in_input, unit, array}
+use Rattle.ddl_types.specs.Types.{Ty}
 use Rattle.ddl_types.specs.Outcome.{Outcome, tick, parsed, missed, unticked}
 use Rattle.ddl_types.specs.Joining.{Bind}
 use Rattle.ddl_types.proofs.Joins.{unticked_leave, unticked_bind, both_end}
@@ -25,9 +26,9 @@ pub byte_absent : (input : List ℕ) (span : Span) (at : ℕ) → length input �
 unfolding byte_at
 byte_absent input span at h = grind arith
 
-pub meant_uint8 : (input : List ℕ) (span : Span) (env : Env) (at : ℕ) → meant input (expr uint8 span) env at ≡ byte_at input span at
+pub meant_uint8 : (input : List ℕ) (ty : Ty) (span : Span) (env : Env) (at : ℕ) → meant input (expr uint8 ty span) env at ≡ byte_at input span at
 unfolding meant byte_at
-meant_uint8 input span env at = refl
+meant_uint8 input ty span env at = refl
 
 pub end_there : (input : List ℕ) (span : Span) (at : ℕ) → length input ≤ at → end_at input span at ≡ parsed unit (stream_at input at)
 unfolding end_at
@@ -37,28 +38,28 @@ pub end_absent : (input : List ℕ) (span : Span) (at : ℕ) → at < length inp
 unfolding end_at
 end_absent input span at h = grind arith
 
-pub meant_end : (input : List ℕ) (span : Span) (env : Env) (at : ℕ) → meant input (expr end span) env at ≡ end_at input span at
+pub meant_end : (input : List ℕ) (ty : Ty) (span : Span) (env : Env) (at : ℕ) → meant input (expr end ty span) env at ≡ end_at input span at
 unfolding meant end_at
-meant_end input span env at = refl
+meant_end input ty span env at = refl
 
-pub meant_pure : (input : List ℕ) (e : Expr) (span : Span) (env : Env) (at : ℕ) (v : Value) → simple_value_of e env ≡ counts (gives v) → meant input (expr (pure e) span) env at ≡ parsed v (stream_at input at)
+pub meant_pure : (input : List ℕ) (e : Expr) (ty : Ty) (span : Span) (env : Env) (at : ℕ) (v : Value) → simple_value_of e env ≡ counts (gives v) → meant input (expr (pure e) ty span) env at ≡ parsed v (stream_at input at)
 unfolding meant simple_value_of
-meant_pure input e span env at v h = ap (λ o. unticked (tick (then_parse o (λ w. parsed w (stream_at input at))))) h
+meant_pure input e ty span env at v h = ap (λ o. unticked (tick (then_parse o (λ w. parsed w (stream_at input at))))) h
 
 -- the bytes of a text are those of its value
 with_text : (bs : List ℕ) (rest : List ℕ → Outcome) → with_bytes (byte_values bs) rest ≡ rest bs
 with_text [] rest = refl
 with_text (b ∷ bs) rest = with_text bs (λ cs. rest (b ∷ cs))
 
-pub meant_match : (input : List ℕ) (bs : List ℕ) (e : Expr) (span : Span) (env : Env) (at : ℕ) → IsTextOf bs e → meant input (expr (match e) span) env at ≡ matched input bs bs span at
+pub meant_match : (input : List ℕ) (bs : List ℕ) (e : Expr) (ty : Ty) (span : Span) (env : Env) (at : ℕ) → IsTextOf bs e → meant input (expr (match e) ty span) env at ≡ matched input bs bs span at
 unfolding meant matched
-meant_match input bs e span env at h =
-    ap (λ f. meant input (expr (match f) span) env at) h.1
+meant_match input bs e ty span env at h =
+    ap (λ f. meant input (expr (match f) ty span) env at) h.2
     ∙ ap unticked (with_text bs (λ cs. match_bytes cs (array (byte_values bs)) span (stream_at input at)))
 
-pub meant_block : (input : List ℕ) (is : Items) (span : Span) (env : Env) (at : ℕ) → meant input (expr (block is) span) env at ≡ meant_items input is env nothing_built at
+pub meant_block : (input : List ℕ) (is : Items) (ty : Ty) (span : Span) (env : Env) (at : ℕ) → meant input (expr (block is) ty span) env at ≡ meant_items input is env nothing_built at
 unfolding meant meant_items
-meant_block input is span env at = unticked_leave (den_items [] bottom is env nothing_built (stream_at input at))
+meant_block input is ty span env at = unticked_leave (den_items [] bottom is env nothing_built (stream_at input at))
 
 -- ---- items
 

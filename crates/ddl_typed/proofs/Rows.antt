@@ -7,6 +7,8 @@ use Rattle.ddl_types.specs.Value.{Value, Stream, in_input, unit, array, fields, 
 use Rattle.ddl_types.specs.Value as v
 use Rattle.ddl_types.specs.Outcome.{Deep, Stuck, ends, tick, parsed, missed}
 use Rattle.ddl_types.specs.Answer.{Answer, answer_of, counted, failed}
+use Rattle.ddl_types.specs.Types.{Ty, con, uint, array_of, place, none, more}
+use Rattle.ddl_types.specs.Types as t
 use Rattle.ddl_typed.specs.Tree.{Expr, Decl, expr, text, local, pure, uint8, match, end, block, no_items, item, plain, let_, field, result_}
 use Rattle.ddl_typed.specs.Primitives.{byte_value, byte_values}
 use Rattle.ddl_typed.specs.Denoted.{Denoted}
@@ -21,8 +23,30 @@ main e = record { name = span 4 8; body = e } ∷ []
 abbrev rest_of : List ℕ → ℕ → ℕ → Stream
 rest_of input from to = record { bytes = input; source = in_input; from = from; to = to }
 
+-- `uint 8`, an array of them, `{}`, and the type of the first place's records
+abbrev byte_type : Ty
+byte_type = con (uint 8) none
+
+abbrev bytes_type : Ty
+bytes_type = con array_of (more byte_type none)
+
+abbrev unit_type : Ty
+unit_type = con t.unit none
+
+abbrev record_type : Ty
+record_type = con (place 0) none
+
+-- `UInt8`
+abbrev byte : ℕ → ℕ → Expr
+byte from to = expr uint8 byte_type (span from to)
+
+-- `^` of a name
+abbrev named : ℕ → Ty → ℕ → ℕ → ℕ → Expr
+named x ty from at to = expr (pure (expr (local x) ty (span at to))) ty (span from to)
+
+-- `Match` of a text
 abbrev match_text : List ℕ → ℕ → ℕ → ℕ → Expr
-match_text bs from inner to = expr (match (expr (text bs) (span inner to))) (span from to)
+match_text bs from inner to = expr (match (expr (text bs) bytes_type (span inner to))) bytes_type (span from to)
 
 abbrev one_parse : Value → Stream → Answer
 one_parse w s = record { parses = record { value = w; rest = s } ∷ []; closing = counted 1 }
@@ -54,10 +78,10 @@ match_ab_at_depth_0 = refl
 
 abbrev field_and_let : List Decl
 field_and_let = main (expr (block (
-    item (field (codes "x") 0 (expr uint8 (span 23 28)))
+    item (field (codes "x") 0 (byte 23 28))
     (item (let_ 1 (match_text (codes "b") 38 44 47))
-    (item (plain (expr (pure (expr (local 1) (span 51 52))) (span 49 52)))
-    (item (plain (expr end (span 54 57))) no_items))))) (span 11 59))
+    (item (plain (named 1 bytes_type 49 51 52))
+    (item (plain (expr end unit_type (span 54 57))) no_items))))) record_type (span 11 59))
 
 abbrev x_is_97 : Value
 x_is_97 = fields (v.field (codes "x") (byte_value 97) no_fields)
@@ -72,7 +96,7 @@ field_and_let_on_ab_answer = refl
 -- ---- def Main = block { $$ = UInt8; Match "b" }
 
 abbrev result_first : List Decl
-result_first = main (expr (block (item (result_ (expr uint8 (span 24 29))) (item (plain (match_text (codes "b") 31 37 40)) no_items))) (span 11 42))
+result_first = main (expr (block (item (result_ (byte 24 29)) (item (plain (match_text (codes "b") 31 37 40)) no_items))) byte_type (span 11 42))
 
 result_first_on_ab : Denoted 1 result_first 0 (codes "ab") ≡ tick (tick (tick (tick (tick (tick (tick (parsed (byte_value 97) (rest_of (codes "ab") 2 2))))))))
 result_first_on_ab = refl
@@ -83,7 +107,7 @@ result_first_on_ab_answer = refl
 -- ---- def Main = block { UInt8; UInt8 }
 
 abbrev two_bytes : List Decl
-two_bytes = main (expr (block (item (plain (expr uint8 (span 19 24))) (item (plain (expr uint8 (span 26 31))) no_items))) (span 11 33))
+two_bytes = main (expr (block (item (plain (byte 19 24)) (item (plain (byte 26 31)) no_items))) byte_type (span 11 33))
 
 -- on `a`: the second byte is absent
 two_bytes_on_a : Denoted 1 two_bytes 0 (codes "a") ≡ tick (tick (tick (tick (missed why.Byte in_input 1 (span 26 31)))))
@@ -100,14 +124,14 @@ two_bytes_on_ab_answer = refl
 
 -- def Main = block { UInt8; let y = UInt8 }: the last item is a `let`, and the value is `{}`
 abbrev let_last : List Decl
-let_last = main (expr (block (item (plain (expr uint8 (span 19 24))) (item (let_ 0 (expr uint8 (span 34 39))) no_items))) (span 11 41))
+let_last = main (expr (block (item (plain (byte 19 24)) (item (let_ 0 (byte 34 39)) no_items))) unit_type (span 11 41))
 
 let_last_on_ab : answer_of (Denoted 1 let_last 0 (codes "ab")) ≡ Some (one_parse unit (rest_of (codes "ab") 2 2))
 let_last_on_ab = refl
 
 -- def Main = block { x = UInt8; UInt8 }: a field and no `$$`, and the value is the record
 abbrev field_first : List Decl
-field_first = main (expr (block (item (field (codes "x") 0 (expr uint8 (span 23 28))) (item (plain (expr uint8 (span 30 35))) no_items))) (span 11 37))
+field_first = main (expr (block (item (field (codes "x") 0 (byte 23 28)) (item (plain (byte 30 35)) no_items))) record_type (span 11 37))
 
 field_first_on_ab : answer_of (Denoted 1 field_first 0 (codes "ab")) ≡ Some (one_parse x_is_97 (rest_of (codes "ab") 2 2))
 field_first_on_ab = refl
@@ -116,10 +140,10 @@ field_first_on_ab = refl
 abbrev nested : List Decl
 nested = main (expr (block (
     item (field (codes "y") 0 (expr (block (
-    item (field (codes "x") 0 (expr uint8 (span 35 40)))
-    (item (field (codes "z") 1 (expr (pure (expr (local 0) (span 48 49))) (span 46 49))) no_items))) (span 23 51)))
-    (item (result_ (expr (pure (expr (local 0) (span 60 61))) (span 58 61)))
-    (item (plain (expr uint8 (span 63 68))) no_items)))) (span 11 70))
+    item (field (codes "x") 0 (byte 35 40))
+    (item (field (codes "z") 1 (named 0 byte_type 46 48 49)) no_items))) record_type (span 23 51)))
+    (item (result_ (named 0 record_type 58 60 61))
+    (item (plain (byte 63 68)) no_items)))) record_type (span 11 70))
 
 abbrev both_97 : Value
 both_97 = fields (v.field (codes "x") (byte_value 97) (v.field (codes "z") (byte_value 97) no_fields))
@@ -129,5 +153,5 @@ nested_on_ab : Denoted 1 nested 0 (codes "ab") ≡ tick (tick (tick (tick (tick 
 nested_on_ab = refl
 
 -- a name without a binding, which no accepted specification has, means nothing
-unbound : Denoted 1 (main (expr (pure (expr (local 0) (span 13 14))) (span 11 14))) 0 [] ≡ tick (tick (tick (ends Stuck)))
+unbound : Denoted 1 (main (named 0 byte_type 11 13 14)) 0 [] ≡ tick (tick (tick (ends Stuck)))
 unbound = refl

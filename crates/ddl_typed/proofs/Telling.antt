@@ -105,7 +105,7 @@ match_value_told _ span s = tt
 module _ (decls : List Decl) (lower : Lower) (h : (e : Expr) (env : Env) (s : Stream) → IsTold (lower.den e env s)) where
   mutual
     den_told : (e : Expr) (env : Env) (s : Stream) → IsTold (den decls lower e env s)
-    den_told (expr form span) env s = form_told form span env s
+    den_told (expr form ty span) env s = form_told form span env s
 
     form_told : (form : Form) (span : Span) (env : Env) (s : Stream) → IsTold (form_den decls lower form span env s)
     form_told (pure e) span env s = then_parse_told (val decls lower e env) _ (λ v. tt)

@@ -4,6 +4,7 @@ use Rattle.std.specs.declared.alloc.Global.{Global}
 use Rattle.std.specs.declared.rc.Rc.{Rc}
 use Rattle.ddl_base.specs.declared.span.Span.{Span}
 use Rattle.ddl_types.specs.Value.{Value, Stream, in_input, unit, array}
+use Rattle.ddl_types.specs.Types.{Ty}
 use Rattle.ddl_types.specs.Outcome.{Outcome, parsed, missed, unticked}
 use Rattle.ddl_typed.specs.Tree.{Expr, Items, Item, expr, text}
 use Rattle.ddl_typed.specs.Env.{Env, empty, with_value}
@@ -80,4 +81,4 @@ Gives input o (Err NoMemory) = Unit {0}
 
 -- the form is the text of these bytes
 abbrev pub IsTextOf : List ℕ → Expr → Type 0
-IsTextOf bs e = (span : Span) × (e ≡ expr (text bs) span)
+IsTextOf bs e = (ty : Ty) × (span : Span) × (e ≡ expr (text bs) ty span)

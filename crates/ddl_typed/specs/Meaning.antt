@@ -23,7 +23,7 @@ module _ (decls : List Decl) (lower : Lower) where
   -- the ticks and the value of a form in an environment
   abbrev mutual
     pub val : Expr → Env → Valued
-    val (expr form span) env = form_val form span env
+    val (expr form ty span) env = form_val form span env
 
     pub form_val : Form → Span → Env → Valued
     form_val (text bs) span env = counts (gives (array (byte_values bs)))
@@ -33,7 +33,7 @@ module _ (decls : List Decl) (lower : Lower) where
   -- the outcome of a form in an environment on a stream; each form begins with one tick
   abbrev mutual
     pub den : Expr → Env → Stream → Outcome
-    den (expr form span) env s = form_den form span env s
+    den (expr form ty span) env s = form_den form span env s
 
     pub form_den : Form → Span → Env → Stream → Outcome
     form_den (pure e) span env s = tick (then_parse (val e env) (λ v. parsed v s))

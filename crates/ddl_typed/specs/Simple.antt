@@ -11,20 +11,20 @@ names_after (result_ e) n = n
 
 -- a text
 abbrev pub IsText : Expr → Type 0
-IsText (expr (text bs) span) = Unit {0}
-IsText (expr form span) = ⊥
+IsText (expr (text bs) ty span) = Unit {0}
+IsText (expr form ty span) = ⊥
 
 -- a text, or one of the n names in scope
 abbrev pub IsSimpleValue : Expr → ℕ → Type 0
-IsSimpleValue (expr (text bs) span) n = Unit {0}
-IsSimpleValue (expr (local x) span) n = x < n
-IsSimpleValue (expr form span) n = ⊥
+IsSimpleValue (expr (text bs) ty span) n = Unit {0}
+IsSimpleValue (expr (local x) ty span) n = x < n
+IsSimpleValue (expr form ty span) n = ⊥
 
 -- a form of blocks, matches of a text, bytes, ends and `^` of a simple value;
 -- the n names in scope have the numbers below n, and the next one that is bound has the number n
 abbrev mutual
   pub IsSimple : Expr → ℕ → Type 0
-  IsSimple (expr form span) n = IsSimpleForm form n
+  IsSimple (expr form ty span) n = IsSimpleForm form n
 
   pub IsSimpleForm : Form → ℕ → Type 0
   IsSimpleForm (pure e) n = IsSimpleValue e n

@@ -4,6 +4,7 @@ use Rattle.ddl_typed.specs.declared.expr.TExpr.{TExpr, TExpr-F, fold-TExpr}
 use Rattle.ddl_typed.specs.declared.expr.TForm.{TForm, TForm-F, fold-TForm}
 use Rattle.ddl_typed.specs.declared.expr.TItem.{TItem, TItem-F, fold-TItem}
 use Rattle.ddl_typed.specs.declared.expr.TDecl.{TDecl}
+use Rattle.ddl_types.specs.TyView.{ty_view}
 use Rattle.ddl_typed.specs.Tree as t
 
 abbrev pub items_of : List t.Item → t.Items
@@ -27,7 +28,7 @@ item_step (TItem-F.Field name x e) = t.field name x e
 item_step (TItem-F.Result e) = t.result_ e
 
 abbrev pub expr_step : TExpr-F t.Form t.Item t.Expr → t.Expr
-expr_step e = t.expr e.form e.span
+expr_step e = t.expr e.form (ty_view e.of) e.span
 
 unfoldable pub form_view : TForm → t.Form
 form_view = fold-TForm t.Form t.Item t.Expr form_step item_step expr_step
@@ -58,7 +59,7 @@ item_layer (TItem-F.Field name x e) = t.field name x (view e)
 item_layer (TItem-F.Result e) = t.result_ (view e)
 
 abbrev pub expr_layer : TExpr-F TForm TItem TExpr → t.Expr
-expr_layer e = t.expr (form_view e.form) e.span
+expr_layer e = t.expr (form_view e.form) (ty_view e.of) e.span
 
 -- a declaration
 abbrev pub decl_view : TDecl → t.Decl

@@ -1,4 +1,5 @@
 use ddl_base::{Bytes, Span};
+use ddl_types::Ty;
 
 /// A declaration: its name's place, and the form that it stands for.
 #[derive(Drop)]
@@ -9,11 +10,12 @@ pub struct TDecl {
     pub body: TExpr,
 }
 
-/// A form of a specification, with the place of its text.
+/// A form of a specification, with its type and the place of its text.
 #[cycle(typed)]
 #[derive(Drop)]
 pub struct TExpr {
     pub form: TForm,
+    pub of: Ty,
     pub span: Span,
 }
 

@@ -3,6 +3,7 @@
 
 mod answer;
 mod built;
+mod entry;
 mod evaluate;
 mod expr;
 mod laws;
@@ -10,8 +11,6 @@ mod shared;
 mod step;
 
 pub use answer::{Answer, Close, Failure, Parse};
-pub use built::Built;
+pub use entry::denote;
 pub use expr::{TDecl, TExpr, TForm, TItem};
 pub use laws::{answer_law, depth_law};
-pub use shared::{Part, Shared, is_deeper, to_plain};
-pub use step::{Parsed, Stop};

@@ -6,4 +6,5 @@ pub mod Joins
 pub mod NumRows
 pub mod PlainLayers
 pub mod PlainRows
+pub mod Printing
 pub mod TyLayers
