@@ -4,3 +4,10 @@ pub mod Values
 pub mod Named
 pub mod Cutting
 pub mod Opened
+pub mod Runs
+pub mod Firsts
+pub mod Spelled
+pub mod Marked
+pub mod Lengths
+pub mod Digits
+pub mod Commented

@@ -10,3 +10,4 @@ pub mod Places
 pub mod Tokens
 pub mod Brackets
 pub mod Layout
+pub mod Forms
