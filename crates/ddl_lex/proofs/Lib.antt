@@ -4,3 +4,10 @@ pub mod Named
 pub mod Opened
 pub mod Steps
 pub mod Values
+pub mod Runs
+pub mod Firsts
+pub mod Spelled
+pub mod Marked
+pub mod Lengths
+pub mod Digits
+pub mod Commented

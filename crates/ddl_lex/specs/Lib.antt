@@ -10,3 +10,6 @@ pub mod Numbers
 pub mod Pieces
 pub mod Places
 pub mod Tokens
+pub mod Brackets
+pub mod Layout
+pub mod Forms
