@@ -1,0 +1,8 @@
+//! A solver of equations between types.
+#![tactic(auto)]
+
+mod heads;
+mod occurs;
+mod reading;
+mod solving;
+mod store;
