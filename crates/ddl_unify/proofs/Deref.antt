@@ -45,7 +45,7 @@ pub step_alias : (place : List ℕ) (xs : List Bound) (es : List Equation) (v w 
 step_alias place xs es v w t place2 xs2 e u s =
     step_flip true place xs es t (var v) place2 xs2 es
     (step_like true place xs es t (var w) (var v) place2 xs2 es (free_read xs t w e u)
-     (step_flip true place xs es (var v) (var w) place2 xs2 es s))
+    (step_flip true place xs es (var v) (var w) place2 xs2 es s))
 
 pub opened_is : (xs ys : List Bound) (place place2 : List ℕ) (t r : Ty) → ys ≡ xs → place2 ≡ place → Opened ys (length place2) t r → Opened xs (length place) t r
 opened_is xs ys place place2 t r e q o =

@@ -29,8 +29,8 @@ pub step_opened : (done : Bool) (place : List ℕ) (xs : List Bound) (es : List 
 step_opened done place xs es l r x y es2 o p e s =
     step_like done place xs es l x r place xs es2 (sym o.same)
     (step_flip done place xs es r x place xs es2
-     (step_like done place xs es r y x place xs es2 (sym p.same)
-      (step_flip done place xs es x y place xs es2 (step_split done place xs es x y es2 o.below p.below e s))))
+    (step_like done place xs es r y x place xs es2 (sym p.same)
+    (step_flip done place xs es x y place xs es2 (step_split done place xs es x y es2 o.below p.below e s))))
 
 pub going_first : (place : List ℕ) (xs : List Bound) (es : List Equation) → Kept place xs → EachBelow es (length place) → Going place xs es place xs es
 going_first place xs es k b = record {
@@ -50,14 +50,14 @@ pub going_next : (place0 : List ℕ) (xs0 : List Bound) (es0 : List Equation) (p
 going_next place0 xs0 es0 place xs es es1 p place2 xs2 es2 g e f s = record {
   fine = fine_then place0 place place2 xs0 xs xs2 g.fine f;
   there = λ h a q.
-    let x = g.there h a q in
-    let Q : List Equation → Type 0 = λ z. Solves h z in
-    let y : Solves h (es1 ++ p ∷ []) = subst Q e x.1 in
-    s.there h x.0 (solves_front h es1 (p ∷ []) y) (solves_back h es1 (p ∷ []) y).0;
+      let x = g.there h a q in
+      let Q : List Equation → Type 0 = λ z. Solves h z in
+      let y : Solves h (es1 ++ p ∷ []) = subst Q e x.1 in
+      s.there h x.0 (solves_front h es1 (p ∷ []) y) (solves_back h es1 (p ∷ []) y).0;
   back = λ h a q.
-    let x = s.back h a q in
-    let Q : List Equation → Type 0 = λ z. Solves h z in
-    g.back h x.0 (subst Q (sym e) (solves_append h es1 (p ∷ []) x.1 (x.2, tt)));
+      let x = s.back h a q in
+      let Q : List Equation → Type 0 = λ z. Solves h z in
+      g.back h x.0 (subst Q (sym e) (solves_append h es1 (p ∷ []) x.1 (x.2, tt)));
   below = let P : ℕ → Type 0 = λ n. EachBelow es2 n in subst P g.fine.long s.below;
 }
 

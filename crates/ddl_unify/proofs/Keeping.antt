@@ -89,16 +89,18 @@ kept_more place xs xs2 x m e em h =
     record {
       sound = subst Sound (sym e2) (h.free, has_count (on (ty_view x.to) (solution (bounds xs))) x.from h.absent, h.kept.sound);
       unbound = λ v q. elim (eqb_tells v x.from) [
-          inl p ↦ absurd (let g : get_or (set place x.from m) x.from 0 ≡ 0 = ap (λ i. get_or (set place x.from m) i 0) (sym p.1) ∙ q in omega arith)
-        | inr p ↦ subst (Unbound v) (sym e2) ((λ y. p.1 (sym y)), h.kept.unbound v (sym (get_or-set_other place x.from v m 0 p.1) ∙ q)) ];
+        | inl p ↦ absurd (let g : get_or (set place x.from m) x.from 0 ≡ 0 = ap (λ i. get_or (set place x.from m) i 0) (sym p.1) ∙ q in omega arith)
+        | inr p ↦ subst (Unbound v) (sym e2) ((λ y. p.1 (sym y)), h.kept.unbound v (sym (get_or-set_other place x.from v m 0 p.1) ∙ q))
+      ];
       bound = λ v j q. elim (eqb_tells v x.from) [
-          inl p ↦ (let g : get_or (set place x.from m) x.from 0 ≡ suc j = ap (λ i. get_or (set place x.from m) i 0) (sym p.1) ∙ q in
-                   let P : ℕ → Type 0 = λ i. IsFrom j i xs2 in
-                   subst P (sym p.1) (subst (IsFrom j x.from) (sym e) (from_last xs x j (omega arith))))
-        | inr p ↦ subst (IsFrom j v) (sym e) (from_append xs x j v (h.kept.bound v j (sym (get_or-set_other place x.from v m 0 p.1) ∙ q))) ];
+        | inl p ↦ (let g : get_or (set place x.from m) x.from 0 ≡ suc j = ap (λ i. get_or (set place x.from m) i 0) (sym p.1) ∙ q in
+            let P : ℕ → Type 0 = λ i. IsFrom j i xs2 in
+            subst P (sym p.1) (subst (IsFrom j x.from) (sym e) (from_last xs x j (omega arith))))
+        | inr p ↦ subst (IsFrom j v) (sym e) (from_append xs x j v (h.kept.bound v j (sym (get_or-set_other place x.from v m 0 p.1) ∙ q)))
+      ];
       below = let P : ℕ → Type 0 = λ i. ToBelow (bounds xs2) i in
-              let Q : List Binding → Type 0 = λ bs. ToBelow bs (length place) in
-              subst P (sym (length-set place x.from m)) (subst Q (sym e2) (h.below, h.kept.below));
+          let Q : List Binding → Type 0 = λ bs. ToBelow bs (length place) in
+          subst P (sym (length-set place x.from m)) (subst Q (sym e2) (h.below, h.kept.below));
     }
 
 pub step_more : (place : List ℕ) (xs xs2 : List Bound) (x : Bound) (m : ℕ) (es : List Equation) → xs2 ≡ xs ++ x ∷ [] → m ≡ length xs2 → Fits place xs x → EachBelow es (length place) → Step place xs es (var x.from) (ty_view x.to) (set place x.from m) xs2 es
@@ -111,10 +113,10 @@ step_more place xs xs2 x m es e em h eb =
       there = λ f a s q. (let P : List Binding → Type 0 = λ b. Agrees f b in subst P (sym e2) (q, a), s);
       back = λ f a s. (let P : List Binding → Type 0 = λ b. Agrees f b in let y = subst P e2 a in (y.1, s, y.0));
       fewer =
-        let zs : zeros place ≡ suc (zeros (set place x.from m)) = zeros_set place x.from (length xs) h.within (free_place place xs x.from h.kept h.free) ∙ ap (λ i. suc (zeros (set place x.from i))) (sym mm) in
-        let w : weight (bounds xs2) es ≤ weight bs es * size (on (ty_view x.to) (solution bs)) = omega (arith, ap (λ b. weight b es) e2, weight_bound (bound_view x) bs es) in
-        let P : ℕ → Type 0 = λ u. steps (zeros (set place x.from m)) (weight (bounds xs2) es) < steps u (weight bs (equal (var x.from) (ty_view x.to) ∷ es)) in
-        subst P (sym zs) (steps_bind (zeros (set place x.from m)) (weight bs es) (size (on (ty_view x.to) (solution bs))) (weight (bounds xs2) es) (weight bs (equal (var x.from) (ty_view x.to) ∷ es)) (omega arith) (omega arith) w);
+          let zs : zeros place ≡ suc (zeros (set place x.from m)) = zeros_set place x.from (length xs) h.within (free_place place xs x.from h.kept h.free) ∙ ap (λ i. suc (zeros (set place x.from i))) (sym mm) in
+          let w : weight (bounds xs2) es ≤ weight bs es * size (on (ty_view x.to) (solution bs)) = omega (arith, ap (λ b. weight b es) e2, weight_bound (bound_view x) bs es) in
+          let P : ℕ → Type 0 = λ u. steps (zeros (set place x.from m)) (weight (bounds xs2) es) < steps u (weight bs (equal (var x.from) (ty_view x.to) ∷ es)) in
+          subst P (sym zs) (steps_bind (zeros (set place x.from m)) (weight bs es) (size (on (ty_view x.to) (solution bs))) (weight (bounds xs2) es) (weight bs (equal (var x.from) (ty_view x.to) ∷ es)) (omega arith) (omega arith) w);
       below = eb;
     }
 
@@ -132,9 +134,9 @@ step_flip true place xs es l r place2 xs2 es2 s = record {
   there = λ f a h e. s.there f a h (sym e);
   back = λ f a h. (let q = s.back f a h in (q.0, q.1, sym q.2));
   fewer =
-    let e : weight (bounds xs) (equal l r ∷ es) ≡ weight (bounds xs) (equal r l ∷ es) = omega arith in
-    let P : ℕ → Type 0 = λ n. steps (zeros place2) (weight (bounds xs2) es2) < steps (zeros place) n in
-    subst P e s.fewer;
+      let e : weight (bounds xs) (equal l r ∷ es) ≡ weight (bounds xs) (equal r l ∷ es) = omega arith in
+      let P : ℕ → Type 0 = λ n. steps (zeros place2) (weight (bounds xs2) es2) < steps (zeros place) n in
+      subst P e s.fewer;
   below = s.below;
 }
 step_flip false place xs es l r place2 xs2 es2 s = λ f a e. s f a (sym e)
@@ -149,9 +151,9 @@ step_like true place xs es l k r place2 xs2 es2 e s = record {
   there = λ f a h q. s.there f a h (sym (same_read xs l k f a e) ∙ q);
   back = λ f a h. (let q = s.back f a h in (q.0, q.1, same_read xs l k f q.0 e ∙ q.2));
   fewer =
-    let w : weight (bounds xs) (equal k r ∷ es) ≡ weight (bounds xs) (equal l r ∷ es) = ap (λ x. size x + size (on r (solution (bounds xs))) + weight (bounds xs) es) (sym e) in
-    let P : ℕ → Type 0 = λ n. steps (zeros place2) (weight (bounds xs2) es2) < steps (zeros place) n in
-    subst P w s.fewer;
+      let w : weight (bounds xs) (equal k r ∷ es) ≡ weight (bounds xs) (equal l r ∷ es) = ap (λ x. size x + size (on r (solution (bounds xs))) + weight (bounds xs) es) (sym e) in
+      let P : ℕ → Type 0 = λ n. steps (zeros place2) (weight (bounds xs2) es2) < steps (zeros place) n in
+      subst P w s.fewer;
   below = s.below;
 }
 step_like false place xs es l k r place2 xs2 es2 e s = λ f a q. s f a (sym (same_read xs l k f a e) ∙ q)

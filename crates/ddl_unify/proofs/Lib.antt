@@ -9,3 +9,5 @@ pub mod Keeping
 pub mod Going
 pub mod Undoing
 pub mod Deref
+pub mod Refusing
+pub mod Equating

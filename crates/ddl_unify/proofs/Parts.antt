@@ -140,9 +140,11 @@ split (var v) r es c d n = absurd c
 split (con h ts) (var v) es c d n = absurd d
 split (con h ts) (con g us) es c d n = record {
   there = λ f s e. solves_append f es (pairs ts us) s (pairs_solve f ts us cc);
-  back = λ f s. (solves_front f es (pairs ts us) s,
+  back = λ f s. (
+    solves_front f es (pairs ts us) s,
     let a = head_same h g (and_left (head_eq h g) (long_as ts us) n) in
-    let b = pairs_back f ts us (and_right (head_eq h g) (long_as ts us) n) (solves_back f es (pairs ts us) s) in cc);
+        let b = pairs_back f ts us (and_right (head_eq h g) (long_as ts us) n) (solves_back f es (pairs ts us) s) in cc,
+  );
   lighter = λ bs. omega (arith, weight_append bs es (pairs ts us), pairs_light bs ts us);
   below = λ n h k a. below_append es (pairs ts us) n a (pairs_below ts us n h k);
 }
@@ -171,7 +173,7 @@ pairs_moved st st2 ls ls2 rs rs2 l r e p q h =
     let a : map ty_view ls ≡ map ty_view ls2 ++ ty_view l ∷ [] = ap (map ty_view) p ∙ map-append ty_view ls2 (l ∷ []) in
     let b : map ty_view rs ≡ map ty_view rs2 ++ ty_view r ∷ [] = ap (map ty_view) q ∙ map-append ty_view rs2 (r ∷ []) in
     let t : pairs (tys_of (map ty_view ls)) (tys_of (map ty_view rs)) ≡ equal (ty_view l) (ty_view r) ∷ pairs (tys_of (map ty_view ls2)) (tys_of (map ty_view rs2)) =
-        ap (λ (x : List Ty). pairs (tys_of x) (tys_of (map ty_view rs))) a ∙ ap (λ (x : List Ty). pairs (tys_of (map ty_view ls2 ++ ty_view l ∷ [])) (tys_of x)) b ∙ pairs_last (map ty_view ls2) (map ty_view rs2) (ty_view l) (ty_view r) n in
+    ap (λ (x : List Ty). pairs (tys_of x) (tys_of (map ty_view rs))) a ∙ ap (λ (x : List Ty). pairs (tys_of (map ty_view ls2 ++ ty_view l ∷ [])) (tys_of x)) b ∙ pairs_last (map ty_view ls2) (map ty_view rs2) (ty_view l) (ty_view r) n in
     ap (λ es. es ++ pairs (tys_of (map ty_view ls2)) (tys_of (map ty_view rs2))) (equations_last st st2 (record { left = l; right = r }) e)
     ∙ append_assoc (equations st) (equal (ty_view l) (ty_view r) ∷ []) (pairs (tys_of (map ty_view ls2)) (tys_of (map ty_view rs2)))
     ∙ ap (λ es. equations st ++ es) (sym t)

@@ -37,9 +37,10 @@ agrees_through (d ∷ bs) f g a = (ap (λ x. on x g) a.0 ∙ on_on d.to f g, agr
 pub solution_agrees : (bs : List Binding) → Sound bs → Agrees (solution bs) bs
 solution_agrees [] w = tt
 solution_agrees (b ∷ bs) w =
-    let s : Ty = on b.to (solution bs) in
-    (ap (λ x. on x (one b.from s)) (unbound_read bs b.from w.0) ∙ one_at b.from s ∙ sym (on_absent s b.from s w.1) ∙ on_on b.to (solution bs) (one b.from s),
-     agrees_through bs (solution bs) (one b.from s) (solution_agrees bs w.2))
+    let s : Ty = on b.to (solution bs) in (
+      ap (λ x. on x (one b.from s)) (unbound_read bs b.from w.0) ∙ one_at b.from s ∙ sym (on_absent s b.from s w.1) ∙ on_on b.to (solution bs) (one b.from s),
+      agrees_through bs (solution bs) (one b.from s) (solution_agrees bs w.2),
+    )
 
 agrees_binds : (bs : List Binding) (f : Sub) (v : ℕ) (t : Ty) → Agrees f bs → Binds bs v t → f v ≡ on t f
 agrees_binds [] f v t a h = absurd h
@@ -75,14 +76,15 @@ binds_less [] v t w h = absurd h
 binds_less (b ∷ bs) v t w h =
     let k : ℕ = 1 + weighed b.to (cost bs) in
     elim h [
-      inl q ↦ (let z : count (on b.to (solution bs)) b.from * k ≡ 0 * k = ap (λ c. c * k) w.1 in
-               let o : count (solution bs b.from) b.from * k ≡ 1 * k = ap (λ c. c * k) (ap (λ x. count x b.from) (unbound_read bs b.from w.0) ∙ count_self b.from) in
-               let e : weighed b.to (cost (b ∷ bs)) ≡ weighed t (cost (b ∷ bs)) = ap (λ x. weighed x (cost (b ∷ bs))) q.1 in
-               let g : cost (b ∷ bs) b.from ≡ cost (b ∷ bs) v = ap (cost (b ∷ bs)) q.0 in
-               let m = weighed_more b.to b bs in
-               omega (arith, z, o, e, g, m))
-    | inr q ↦ (let e : count (solution bs v) b.from * k ≡ count (on t (solution bs)) b.from * k = ap (λ x. count x b.from * k) (binds_read bs v t w.2 q) in
-               omega (arith, e, weighed_more t b bs, binds_less bs v t w.2 q)) ]
+      | inl q ↦ (let z : count (on b.to (solution bs)) b.from * k ≡ 0 * k = ap (λ c. c * k) w.1 in
+          let o : count (solution bs b.from) b.from * k ≡ 1 * k = ap (λ c. c * k) (ap (λ x. count x b.from) (unbound_read bs b.from w.0) ∙ count_self b.from) in
+          let e : weighed b.to (cost (b ∷ bs)) ≡ weighed t (cost (b ∷ bs)) = ap (λ x. weighed x (cost (b ∷ bs))) q.1 in
+          let g : cost (b ∷ bs) b.from ≡ cost (b ∷ bs) v = ap (cost (b ∷ bs)) q.0 in
+          let m = weighed_more b.to b bs in
+          omega (arith, z, o, e, g, m))
+      | inr q ↦ (let e : count (solution bs v) b.from * k ≡ count (on t (solution bs)) b.from * k = ap (λ x. count x b.from * k) (binds_read bs v t w.2 q) in
+          omega (arith, e, weighed_more t b bs, binds_less bs v t w.2 q))
+    ]
 
 -- what is read of a list's type is read of the list
 pub read_place : (bs : List Binding) (h : Head) (ts : List Ty) → on (con h (tys_of ts)) (solution bs) ≡ con h (tys_of (map (λ t. on t (solution bs)) ts))

@@ -19,8 +19,9 @@ from_front (d ∷ ys) x (suc k) v f = from_front ys x k v f
 pub undo_within : (place : List ℕ) (xs ys : List Bound) (x : Bound) → xs ≡ ys ++ x ∷ [] → Kept place xs → x.from < length place
 undo_within place xs ys x e k =
     elim (leb_tells (length place) x.from) [
-      inl q ↦ absurd ((subst (Unbound x.from) (bounds_more ys xs x e) (k.unbound x.from (get_past place x.from (omega (arith, q.1))))).0 refl)
-    | inr q ↦ q.1 ]
+      | inl q ↦ absurd ((subst (Unbound x.from) (bounds_more ys xs x e) (k.unbound x.from (get_past place x.from (omega (arith, q.1))))).0 refl)
+      | inr q ↦ q.1
+    ]
 
 pub undo_kept : (place : List ℕ) (xs ys : List Bound) (x : Bound) → xs ≡ ys ++ x ∷ [] → Kept place xs → Kept (set place x.from 0) ys
 undo_kept place xs ys x e k =
@@ -30,14 +31,16 @@ undo_kept place xs ys x e k =
     record {
       sound = sound.2;
       unbound = λ v q. elim (eqb_tells v x.from) [
-          inl p ↦ (let P : ℕ → Type 0 = λ i. Unbound i (bounds ys) in subst P (sym p.1) sound.0)
-        | inr p ↦ (subst (Unbound v) e2 (k.unbound v (sym (get_or-set_other place x.from v 0 0 p.1) ∙ q))).1 ];
+        | inl p ↦ (let P : ℕ → Type 0 = λ i. Unbound i (bounds ys) in subst P (sym p.1) sound.0)
+        | inr p ↦ (subst (Unbound v) e2 (k.unbound v (sym (get_or-set_other place x.from v 0 0 p.1) ∙ q))).1
+      ];
       bound = λ v j q. elim (eqb_tells v x.from) [
-          inl p ↦ absurd (let g : get_or (set place x.from 0) x.from 0 ≡ suc j = ap (λ i. get_or (set place x.from 0) i 0) (sym p.1) ∙ q in omega arith)
-        | inr p ↦ elim (from_front ys x j v (subst (IsFrom j v) e (k.bound v j (sym (get_or-set_other place x.from v 0 0 p.1) ∙ q)))) [ inl f ↦ f | inr f ↦ absurd (p.1 (sym f)) ] ];
+        | inl p ↦ absurd (let g : get_or (set place x.from 0) x.from 0 ≡ suc j = ap (λ i. get_or (set place x.from 0) i 0) (sym p.1) ∙ q in omega arith)
+        | inr p ↦ elim (from_front ys x j v (subst (IsFrom j v) e (k.bound v j (sym (get_or-set_other place x.from v 0 0 p.1) ∙ q)))) [ inl f ↦ f | inr f ↦ absurd (p.1 (sym f)) ]
+      ];
       below = let P : ℕ → Type 0 = λ i. ToBelow (bounds ys) i in
-              let Q : List Binding → Type 0 = λ bs. ToBelow bs (length place) in
-              subst P (sym (length-set place x.from 0)) (subst Q e2 k.below).1;
+          let Q : List Binding → Type 0 = λ bs. ToBelow bs (length place) in
+          subst P (sym (length-set place x.from 0)) (subst Q e2 k.below).1;
     }
 
 -- two fronts of one length are the same

@@ -6,3 +6,5 @@ pub mod Heads
 pub mod View
 pub mod Kept
 pub mod Solving
+pub mod Refused
+pub mod State

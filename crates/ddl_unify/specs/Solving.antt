@@ -65,3 +65,10 @@ abbrev pub holder : Ty → Ty → Option ℕ
 holder (var v) (con h ts) = if has_all ts v then Some v else None
 holder (var v) (var w) = None
 holder (con h ts) t = None
+
+-- the bindings from the n-th on were taken back
+pub record Back (n : ℕ) (place place2 : List ℕ) (a b : List Bound) : Type 0 where
+  pub kept : Kept place2 b
+  pub long : length place2 ≡ length place
+  pub shorter : length b ≡ n
+  pub extends : Extends b a

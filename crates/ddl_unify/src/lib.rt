@@ -4,5 +4,10 @@
 mod heads;
 mod occurs;
 mod reading;
+mod refusal;
+mod solver;
 mod solving;
 mod store;
+
+pub use refusal::EquateError;
+pub use solver::Solver;

@@ -17,7 +17,13 @@ use std::alloc::Global;
 
 /// Whether a variable stands in a type. Each bound variable is followed once.
 #[tactic(auto, using(crate::proofs::Marking::markings))]
-pub fn occurs(alloc: Global, place: &[u32], trail: &[Bound], t: &Ty, v: u32) -> Result<bool, NoMemory>
+pub fn occurs(
+    alloc: Global,
+    place: &[u32],
+    trail: &[Bound],
+    t: &Ty,
+    v: u32,
+) -> Result<bool, NoMemory>
     requires { Kept place.now trail.now }
     ensures { IfOk result (λ b. b ≡ has (on (ty_view t.now) (solution (bounds trail.now))) v) }
 {

@@ -108,7 +108,13 @@ fn keep_same(place: &mut Vec<u32>, trail: &mut Vec<Bound>, v: u32, w: u32) -> Re
 }
 
 /// Binds a variable that is not bound to a type; false where that has no solution.
-fn bind(alloc: Global, place: &mut Vec<u32>, trail: &mut Vec<Bound>, v: u32, t: Ty) -> Result<bool, NoMemory>
+fn bind(
+    alloc: Global,
+    place: &mut Vec<u32>,
+    trail: &mut Vec<Bound>,
+    v: u32,
+    t: Ty,
+) -> Result<bool, NoMemory>
     requires kept { Kept place.old.items trail.old.items }
     requires free { Unbound v (bounds trail.old.items) }
     requires within { v < length place.old.items }
@@ -141,7 +147,13 @@ fn split(stack: &mut Vec<Pair>, left: Ty, right: Ty) -> Result<bool, NoMemory>
 }
 
 /// Solves one equation, or puts those between its parts on the stack; false where it has no solution.
-fn step(alloc: Global, place: &mut Vec<u32>, trail: &mut Vec<Bound>, stack: &mut Vec<Pair>, pair: Pair) -> Result<bool, NoMemory>
+fn step(
+    alloc: Global,
+    place: &mut Vec<u32>,
+    trail: &mut Vec<Bound>,
+    stack: &mut Vec<Pair>,
+    pair: Pair,
+) -> Result<bool, NoMemory>
     requires kept { Kept place.old.items trail.old.items }
     requires left_below { Below (ty_view pair.left) (length place.old.items) }
     requires right_below { Below (ty_view pair.right) (length place.old.items) }
@@ -165,7 +177,12 @@ fn step(alloc: Global, place: &mut Vec<u32>, trail: &mut Vec<Bound>, stack: &mut
 }
 
 /// Solves the equations of a stack; false where they have no solution.
-fn solve(alloc: Global, place: &mut Vec<u32>, trail: &mut Vec<Bound>, mut stack: Vec<Pair>) -> Result<bool, NoMemory>
+fn solve(
+    alloc: Global,
+    place: &mut Vec<u32>,
+    trail: &mut Vec<Bound>,
+    mut stack: Vec<Pair>,
+) -> Result<bool, NoMemory>
     requires kept { Kept place.old.items trail.old.items }
     requires below { EachBelow (equations stack.items) (length place.old.items) }
     ensures fine { Fine place.old.items place.new.items trail.old.items trail.new.items }
@@ -208,7 +225,13 @@ pub fn undo(place: &mut Vec<u32>, trail: &mut Vec<Bound>, n: usize)
 }
 
 /// Solves one equation, or leaves the bindings as they were.
-pub fn try_solve(alloc: Global, place: &mut Vec<u32>, trail: &mut Vec<Bound>, left: &Ty, right: &Ty) -> Result<bool, NoMemory>
+pub fn try_solve(
+    alloc: Global,
+    place: &mut Vec<u32>,
+    trail: &mut Vec<Bound>,
+    left: &Ty,
+    right: &Ty,
+) -> Result<bool, NoMemory>
     requires kept { Kept place.old.items trail.old.items }
     requires left_below { Below (ty_view left.now) (length place.old.items) }
     requires right_below { Below (ty_view right.now) (length place.old.items) }

@@ -10,7 +10,7 @@ use Rattle.ddl_unify.proofs.occurs.+stands.Given as goal
 abbrev pub invariant-stands_in-loop-t : goal.invariant-stands_in-loop-t
 invariant-stands_in-loop-t l = record {
   marks : Marks l.seen l.trail l.v;
-  before : list_has l.v (solution (bounds l.trail)) (map ty_view (take l.t-index l.ts)) ≡ false
+  before : list_has l.v (solution (bounds l.trail)) (map ty_view (take l.t-index l.ts)) ≡ false;
 }
 
 abbrev pub decreases-stands : goal.decreases-stands

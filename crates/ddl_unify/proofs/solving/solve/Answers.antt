@@ -32,16 +32,16 @@ pub returns-then-not-branch-clause-solved : goal.returns-then-not-branch-clause-
 returns-then-not-branch-clause-solved c =
     going_stop _ _ _ c.loop-pair.place.items c.loop-pair.trail.items (equations c.loop-pair.stack.items) (equations c.pop.new.self.items) (pair_view c.in-Some.pair) c.loop-pair.invariant (equations_last c.pop.new.self.items c.loop-pair.stack.items c.in-Some.pair c.in-Some.ensures.items)
     (let P : Bool → Type 0 = λ b. StepIs b c.loop-pair.place.items c.loop-pair.trail.items (equations c.pop.new.self.items) (ty_view c.in-Some.pair.left) (ty_view c.in-Some.pair.right) c.step.new.place.items c.step.new.trail.items (equations c.step.new.stack.items) in
-     subst P c.if-not-branch.true c.in_ok-step.ensures.step)
+    subst P c.if-not-branch.true c.in_ok-step.ensures.step)
 
 pub loop-pair-smaller : goal.loop-pair-smaller
 loop-pair-smaller c =
     going_smaller c.loop-pair.place.items c.loop-pair.trail.items (equations c.loop-pair.stack.items) (equations c.pop.new.self.items) (pair_view c.in-Some.pair) c.step.new.place.items c.step.new.trail.items (equations c.step.new.stack.items) (equations_last c.pop.new.self.items c.loop-pair.stack.items c.in-Some.pair c.in-Some.ensures.items)
     (let P : Bool → Type 0 = λ b. StepIs b c.loop-pair.place.items c.loop-pair.trail.items (equations c.pop.new.self.items) (ty_view c.in-Some.pair.left) (ty_view c.in-Some.pair.right) c.step.new.place.items c.step.new.trail.items (equations c.step.new.stack.items) in
-     subst P c.if-not-branch.false c.in_ok-step.ensures.step)
+    subst P c.if-not-branch.false c.in_ok-step.ensures.step)
 
 pub loop-pair-preserved : goal.loop-pair-preserved
 loop-pair-preserved c =
     going_next _ _ _ c.loop-pair.place.items c.loop-pair.trail.items (equations c.loop-pair.stack.items) (equations c.pop.new.self.items) (pair_view c.in-Some.pair) c.step.new.place.items c.step.new.trail.items (equations c.step.new.stack.items) c.loop-pair.invariant (equations_last c.pop.new.self.items c.loop-pair.stack.items c.in-Some.pair c.in-Some.ensures.items) c.in_ok-step.ensures.fine
     (let P : Bool → Type 0 = λ b. StepIs b c.loop-pair.place.items c.loop-pair.trail.items (equations c.pop.new.self.items) (ty_view c.in-Some.pair.left) (ty_view c.in-Some.pair.right) c.step.new.place.items c.step.new.trail.items (equations c.step.new.stack.items) in
-     subst P c.if-not-branch.false c.in_ok-step.ensures.step)
+    subst P c.if-not-branch.false c.in_ok-step.ensures.step)

@@ -16,8 +16,8 @@ pub returns-in-Some-clause-step : goal.returns-in-Some-clause-step
 returns-in-Some-clause-step c =
     step_like c.in_ok-done.done c.args.place.now.items c.args.trail.now.items (equations c.args.stack.now.items) (ty_view c.args.pair.left) (var c.in-Some.v) (ty_view c.args.pair.right) c.bind.new.place.items c.bind.new.trail.items (equations c.args.stack.now.items)
     (free_read c.args.trail.now.items (ty_view c.args.pair.left) c.in-Some.v
-     (read_is c.args.trail.now.items c.deref-2.result.now (ty_view c.args.pair.left) c.unbound.result c.in-Some.v c.deref-2.ensures.value c.unbound.ensures.read c.in-Some.is)
-     (free_is c.args.trail.now.items c.deref-2.result.now c.in-Some.v c.deref-2.ensures.value c.in-Some.ensures.free))
+    (read_is c.args.trail.now.items c.deref-2.result.now (ty_view c.args.pair.left) c.unbound.result c.in-Some.v c.deref-2.ensures.value c.unbound.ensures.read c.in-Some.is)
+    (free_is c.args.trail.now.items c.deref-2.result.now c.in-Some.v c.deref-2.ensures.value c.in-Some.ensures.free))
     (c.in_ok-done.ensures.step (equations c.args.stack.now.items) c.requires.stack_below)
 
 pub bind-requires-in-Some-unbound-clause-within : goal.bind-requires-in-Some-unbound-clause-within
@@ -29,10 +29,10 @@ pub returns-in-Some-unbound-clause-step : goal.returns-in-Some-unbound-clause-st
 returns-in-Some-unbound-clause-step c =
     step_flip c.in_ok-done-2.done c.args.place.now.items c.args.trail.now.items (equations c.args.stack.now.items) (ty_view c.args.pair.right) (ty_view c.args.pair.left) c.bind-in-Some-unbound.new.place.items c.bind-in-Some-unbound.new.trail.items (equations c.args.stack.now.items)
     (step_like c.in_ok-done-2.done c.args.place.now.items c.args.trail.now.items (equations c.args.stack.now.items) (ty_view c.args.pair.right) (var c.in-Some-unbound.v) (ty_view c.args.pair.left) c.bind-in-Some-unbound.new.place.items c.bind-in-Some-unbound.new.trail.items (equations c.args.stack.now.items)
-     (free_read c.args.trail.now.items (ty_view c.args.pair.right) c.in-Some-unbound.v
-      (read_is c.args.trail.now.items c.deref-4.result.now (ty_view c.args.pair.right) c.unbound-2.result c.in-Some-unbound.v c.deref-4.ensures.value c.unbound-2.ensures.read c.in-Some-unbound.is)
-      (free_is c.args.trail.now.items c.deref-4.result.now c.in-Some-unbound.v c.deref-4.ensures.value c.in-Some-unbound.ensures.free))
-     (c.in_ok-done-2.ensures.step (equations c.args.stack.now.items) c.requires.stack_below))
+    (free_read c.args.trail.now.items (ty_view c.args.pair.right) c.in-Some-unbound.v
+    (read_is c.args.trail.now.items c.deref-4.result.now (ty_view c.args.pair.right) c.unbound-2.result c.in-Some-unbound.v c.deref-4.ensures.value c.unbound-2.ensures.read c.in-Some-unbound.is)
+    (free_is c.args.trail.now.items c.deref-4.result.now c.in-Some-unbound.v c.deref-4.ensures.value c.in-Some-unbound.ensures.free))
+    (c.in_ok-done-2.ensures.step (equations c.args.stack.now.items) c.requires.stack_below))
 
 pub returns-clause-step : goal.returns-clause-step
 returns-clause-step c =

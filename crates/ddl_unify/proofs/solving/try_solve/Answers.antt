@@ -14,8 +14,12 @@ returns-in-Ok-false c =
     let s = subst P c.in-Ok-false.field-0-test c.in-Ok-false.ensures.solved in
     let e : equations c.push.new.self.items ≡ equal (ty_view c.in_ok-left.left) (ty_view c.in_ok-right.right) ∷ [] = ap equations (c.in_ok-push.ensures.items ∙ ap (λ (z : List Pair). z ++ record { left = c.in_ok-left.left; right = c.in_ok-right.right } ∷ []) c.new-stack.ensures.items) in
     let n : length c.undo.new.trail.items ≡ length c.args.trail.now.items = search rules in
-    record { tried = (unchanged c.args.place.now.items c.solve-done.new.place.items c.undo.new.place.items c.args.trail.now.items c.solve-done.new.trail.items c.undo.new.trail.items c.in-Ok-false.ensures.fine c.undo.ensures.kept c.undo.ensures.long n c.undo.ensures.extends,
-      λ f a q. s f a (let Q : List Equation → Type 0 = λ z. Solves f z in subst Q (sym e) (ap (λ x. on x f) c.in_ok-left.ensures ∙ q ∙ sym (ap (λ x. on x f) c.in_ok-right.ensures), tt))) }
+    record {
+      tried = (
+        unchanged c.args.place.now.items c.solve-done.new.place.items c.undo.new.place.items c.args.trail.now.items c.solve-done.new.trail.items c.undo.new.trail.items c.in-Ok-false.ensures.fine c.undo.ensures.kept c.undo.ensures.long n c.undo.ensures.extends,
+        λ f a q. s f a (let Q : List Equation → Type 0 = λ z. Solves f z in subst Q (sym e) (ap (λ x. on x f) c.in_ok-left.ensures ∙ q ∙ sym (ap (λ x. on x f) c.in_ok-right.ensures), tt)),
+      );
+    }
 
 pub returns-in-Err : goal.returns-in-Err
 returns-in-Err c =

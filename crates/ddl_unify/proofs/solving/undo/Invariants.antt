@@ -8,7 +8,7 @@ invariant-loop-place l = record {
   kept : Kept l.place.items l.trail.items;
   long : length l.place.items ≡ length l.fn.place.items;
   within : l.n ≤ length l.trail.items;
-  extends : Extends l.trail.items l.fn.trail.items
+  extends : Extends l.trail.items l.fn.trail.items;
 }
 
 abbrev pub decreases-loop-place : goal.decreases-loop-place
