@@ -1,0 +1,13 @@
+pub mod Sub
+pub mod ReadingLemmas
+pub mod Steps
+pub mod Parts
+pub mod Stored
+pub mod Marking
+pub mod Opening
+pub mod Keeping
+pub mod Going
+pub mod Undoing
+pub mod Deref
+pub mod Refusing
+pub mod Equating
