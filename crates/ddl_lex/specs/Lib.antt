@@ -1,5 +1,6 @@
 pub mod Brackets
 pub mod Comments
+pub mod Forms
 pub mod Gives
 pub mod Layout
 pub mod Letters
@@ -10,6 +11,3 @@ pub mod Numbers
 pub mod Pieces
 pub mod Places
 pub mod Tokens
-pub mod Brackets
-pub mod Layout
-pub mod Forms
