@@ -1,6 +1,13 @@
+pub mod Commented
 pub mod Cutting
+pub mod Digits
 pub mod Elements
+pub mod Firsts
+pub mod Lengths
+pub mod Marked
 pub mod Named
 pub mod Opened
+pub mod Runs
+pub mod Spelled
 pub mod Steps
 pub mod Values

@@ -21,3 +21,6 @@ pub use ddl_token::{Base, Mark, Tok, Token, Word};
 pub use blocks::layout;
 pub use error::LexError;
 pub use lexer::lex;
+
+#[cfg(test)]
+mod tests;

@@ -12,6 +12,7 @@ pub mod Layers
 pub mod LoopRows
 pub mod Matching
 pub mod Meant
+pub mod Paired
 pub mod Rising
 pub mod RowForms
 pub mod Rows

@@ -1,6 +1,8 @@
-ghost use Rattle.std.specs.Prelude.{◌≡◌, ◌∷◌, [], IfOk, List, ℕ, Some};
+ghost use Rattle.std.specs.Prelude.{◌≡◌, ◌∷◌, [], All, IfOk, Some};
 ghost use Rattle.ddl_types.specs.Outcome.{missed, parsed};
+ghost use Rattle.ddl_types.specs.Plain.{IsPaired};
 ghost use Rattle.ddl_types.specs.PlainOf.{cut};
+ghost use Rattle.ddl_types.specs.PlainView.{plain_view};
 ghost use Rattle.ddl_typed.specs.AnswerView.{answer_view, source_of};
 ghost use Rattle.ddl_typed.specs.Evaluated.{rc_view, stream_at, meant};
 ghost use Rattle.ddl_typed.specs.Env.{empty};
@@ -23,10 +25,10 @@ const MAX_DEPTH: u32 = 120;
 /// The denoted outcome of an entry of simple forms on an input, as it is told: its parse, or its best failure, or the
 /// fault of a value that nests too deep to be printed. It takes time and room in proportion to the forms, the input that
 /// they read and the value that is told.
-#[tactic(auto, using(crate::proofs::Answering::simple_answer))]
 pub fn denote(alloc: Global, entry: &TDecl, input: &[u8]) -> Result<Answer, NoMemory>
     requires { IsSimple (view entry.now.body) 0 }
-    ensures { IfOk result (λ answer. IsAnswer (alone_view entry.now) 0 input.now (answer_view answer)) }
+    ensures answer { IfOk result (λ answer. IsAnswer (alone_view entry.now) 0 input.now (answer_view answer)) }
+    ensures paired { IfOk result (λ answer. All (λ parse. IsPaired (plain_view parse.value)) answer.parses.items) }
 {
     let answer = told_at(alloc, entry, input)?;
     Ok(answer)

@@ -8,4 +8,5 @@ pub mod KeptTwice
 pub mod NumRows
 pub mod PlainLayers
 pub mod PlainRows
+pub mod Printing
 pub mod TyLayers

@@ -46,21 +46,21 @@ upper rest n = n / 2 ^ parts_width rest
 abbrev pub lower : Parts → ℕ → ℕ
 lower rest n = n % 2 ^ parts_width rest
 
--- a number fits a layout where it fits a constructor: it has no more bits, and each part fits the bits at its place
+-- a number fits a layout where it fits a constructor: each part fits the bits at its place, and no bits are left over
 abbrev mutual
   pub fits : Layout → ℕ → Bool
   fits no_cons n = false
   fits (one_of c cs) n = con_fits c n || fits cs n
 
   pub con_fits : Con → ℕ → Bool
-  con_fits (named_con name ps) n = nat_lt n (2 ^ parts_width ps) && parts_fit ps n
+  con_fits (named_con name ps) n = parts_fit ps n
 
   pub parts_fit : Parts → ℕ → Bool
-  parts_fit no_parts n = true
+  parts_fit no_parts n = n == 0
   parts_fit (part p ps) n = part_fits p (upper ps n) && parts_fit ps (lower ps n)
 
   pub part_fits : Part → ℕ → Bool
-  part_fits (fixed bits w) n = n == bits
+  part_fits (fixed bits w) n = n == bits && nat_lt n (2 ^ w)
   part_fits (free name w) n = nat_lt n (2 ^ w)
   part_fits (inner name l) n = fits l n
 
