@@ -17,6 +17,7 @@ pub mod Maps
 pub mod Meaning
 pub mod Numbers
 pub mod Operators
+pub mod PartView
 pub mod Patterns
 pub mod Primitives
 pub mod Records

@@ -52,8 +52,7 @@ pub fn eval(
             scope.truncate(names);
             Ok(parsed)
         }
-        TForm::Text(_) => unreachable!(),
-        TForm::Local(_) => unreachable!(),
+        _ => unreachable!(),
     }
 }
 
