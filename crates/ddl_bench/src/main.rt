@@ -9,12 +9,12 @@ use std::alloc::Global;
 use std::io::{Error, ErrorKind};
 use std::{env, fs, io};
 
-/// The height of two towers of types that are solved to be equal.
+/// The height of a tower of types.
 fn solved(alloc: Global, twice: bool, height: u32) -> io::Result<u32> {
     if height >= 1 << 24 {
         return Err(Error::from(ErrorKind::InvalidInput));
     }
-    match equations::equal_towers(alloc, twice, height) {
+    match equations::one_tower(alloc, twice, height) {
         Ok(height) => Ok(height),
         Err(_) => Err(Error::from(ErrorKind::Other)),
     }
