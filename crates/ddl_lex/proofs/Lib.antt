@@ -11,3 +11,4 @@ pub mod Marked
 pub mod Lengths
 pub mod Digits
 pub mod Commented
+pub mod Namely
