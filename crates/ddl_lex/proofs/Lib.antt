@@ -12,3 +12,4 @@ pub mod Lengths
 pub mod Digits
 pub mod Commented
 pub mod Namely
+pub mod Quoted
