@@ -11,3 +11,9 @@ pub mod Runs
 pub mod Spelled
 pub mod Steps
 pub mod Values
+pub mod Marked
+pub mod Lengths
+pub mod Digits
+pub mod Commented
+pub mod Namely
+pub mod Quoted
