@@ -11,7 +11,7 @@ use Rattle.ddl_types.specs.Growth.{IsWhole}
 use Rattle.ddl_types.specs.BestFailure.{best_failure}
 use Rattle.ddl_types.specs.Answer.{counted, failed, faulted, answer_of, answer_at}
 use Rattle.ddl_types.proofs.Joins.{answer_unticked}
-use Rattle.ddl_typed.specs.Tree.{Decl}
+use Rattle.ddl_typed.specs.Tree.{Expr, alone}
 use Rattle.ddl_typed.specs.Env.{empty}
 use Rattle.ddl_typed.specs.Meaning.{level, den}
 use Rattle.ddl_typed.specs.Denoted.{Denoted, whole_input}
@@ -68,19 +68,19 @@ told_is_whole o a h = λ deep. told_deep_is_none (ap (λ e. told_of (answer_at e
     told_deep_is_none e = cc
 
 -- at every depth from 1 on
-told_denoted : (d : Decl) (input : List ℕ) (a : Told) (n : ℕ) → IsSimple d.body 0 → told (cut d.name (meant input d.body empty 0)) ≡ Some a → told (Denoted (suc n) (d ∷ []) 0 input) ≡ Some a
+told_denoted : (name : Span) (e : Expr) (input : List ℕ) (a : Told) (n : ℕ) → IsSimple e 0 → told (cut name (meant input e empty 0)) ≡ Some a → told (Denoted (suc n) (alone name e) 0 input) ≡ Some a
 unfolding meant
-told_denoted d input a n simple h =
-    told_unticked d.name (tick (den (d ∷ []) (level (d ∷ []) n) d.body empty (whole_input input)))
-    ∙ ap (λ o. told (cut d.name (unticked o))) (same_den (d ∷ []) (level (d ∷ []) n) d.body 0 empty (whole_input input) simple)
+told_denoted name e input a n simple h =
+    told_unticked name (tick (den (alone name e) (level (alone name e) n) e empty (whole_input input)))
+    ∙ ap (λ o. told (cut name (unticked o))) (same_den (alone name e) (level (alone name e) n) e 0 empty (whole_input input) simple)
     ∙ h
 
-pub simple_answer : (d : Decl) (input : List ℕ) (a : Told) → IsSimple d.body 0 → told (cut d.name (meant input d.body empty 0)) ≡ Some a → IsAnswer (d ∷ []) 0 input a
-simple_answer d input a simple h = record {
-  enough = (1, told_is_whole (Denoted 1 (d ∷ []) 0 input) a (told_denoted d input a 0 simple h));
+pub simple_answer : (name : Span) (e : Expr) (input : List ℕ) (a : Told) → IsSimple e 0 → told (cut name (meant input e empty 0)) ≡ Some a → IsAnswer (alone name e) 0 input a
+simple_answer name e input a simple h = record {
+  enough = (1, told_is_whole (Denoted 1 (alone name e) 0 input) a (told_denoted name e input a 0 simple h));
   always = each_depth;
 }
   where
-    each_depth : (n : ℕ) → IsWhole (Denoted n (d ∷ []) 0 input) → told (Denoted n (d ∷ []) 0 input) ≡ Some a
+    each_depth : (n : ℕ) → IsWhole (Denoted n (alone name e) 0 input) → told (Denoted n (alone name e) 0 input) ≡ Some a
     each_depth zero whole = absurd (whole refl)
-    each_depth (suc n) whole = told_denoted d input a n simple h
+    each_depth (suc n) whole = told_denoted name e input a n simple h

@@ -8,12 +8,13 @@ use Rattle.ddl_types.specs.Types.{Ty}
 use Rattle.ddl_types.specs.Outcome.{Outcome, tick, parsed, missed, unticked}
 use Rattle.ddl_types.specs.Joining.{Bind}
 use Rattle.ddl_types.proofs.Joins.{unticked_leave, unticked_bind, both_end}
-use Rattle.ddl_typed.specs.Tree.{Expr, Items, Item, expr, pure, uint8, match, end, block, no_items, item, plain, let_, field, result_}
+use Rattle.ddl_typed.specs.Tree.{no_spec, Expr, Items, Item, expr, pure, uint8, match, end, block, no_items, item, plain, let_, field, result_}
 use Rattle.ddl_typed.specs.Env.{Env}
 use Rattle.ddl_typed.specs.Valued.{gives, counts, then_parse}
 use Rattle.ddl_typed.specs.Primitives.{byte_value, byte_values, match_bytes, with_bytes}
 use Rattle.ddl_typed.specs.Blocks.{Built, nothing_built, block_value, bound, with_part}
-use Rattle.ddl_typed.specs.Meaning.{bottom, den_items, den_item}
+use Rattle.ddl_typed.specs.Lower.{bottom}
+use Rattle.ddl_typed.specs.Meaning.{den_items, den_item}
 use Rattle.ddl_typed.specs.Evaluated.{stream_at, meant, meant_item, meant_items, byte_at, end_at, matched, simple_value_of, IsTextOf}
 
 -- ---- forms
@@ -59,7 +60,7 @@ meant_match input bs e ty span env at h =
 
 pub meant_block : (input : List ℕ) (is : Items) (ty : Ty) (span : Span) (env : Env) (at : ℕ) → meant input (expr (block is) ty span) env at ≡ meant_items input is env nothing_built at
 unfolding meant meant_items
-meant_block input is ty span env at = unticked_leave (den_items [] bottom is env nothing_built (stream_at input at))
+meant_block input is ty span env at = unticked_leave (den_items no_spec bottom is env nothing_built (stream_at input at))
 
 -- ---- items
 
@@ -85,11 +86,11 @@ items_none input env b at = refl
 
 -- the rest of the items without its ticks
 rest_of : Items → Env → Built → Item → Value → Stream → Outcome
-rest_of is env b i v s = unticked (den_items [] bottom is (bound i v env) (with_part i v b) s)
+rest_of is env b i v s = unticked (den_items no_spec bottom is (bound i v env) (with_part i v b) s)
 
 items_bound : (input : List ℕ) (i : Item) (is : Items) (env : Env) (b : Built) (at : ℕ) → meant_items input (item i is) env b at ≡ Bind (meant_item input i env at) (rest_of is env b i)
 unfolding meant_items meant_item rest_of
-items_bound input i is env b at = unticked_bind (den_item [] bottom i env (stream_at input at)) (λ v s. den_items [] bottom is (bound i v env) (with_part i v b) s)
+items_bound input i is env b at = unticked_bind (den_item no_spec bottom i env (stream_at input at)) (λ v s. den_items no_spec bottom is (bound i v env) (with_part i v b) s)
 
 -- an item that gave a value
 pub items_gave : (input : List ℕ) (i : Item) (is : Items) (env : Env) (b : Built) (at next : ℕ) (v : Value) → meant_item input i env at ≡ parsed v (stream_at input next) → meant_items input (item i is) env b at ≡ meant_items input is (bound i v env) (with_part i v b) next

@@ -11,7 +11,7 @@ use Rattle.ddl_types.proofs.Printing.{plain_of_paired}
 use Rattle.ddl_typed.specs.declared.answer.Parse.{Parse}
 use Rattle.ddl_typed.specs.declared.answer.Answer.{Answer as Given}
 use Rattle.ddl_typed.specs.AnswerView.{answer_view, shown_view}
-use Rattle.ddl_typed.specs.Tree.{Decl}
+use Rattle.ddl_typed.specs.Tree.{Spec}
 use Rattle.ddl_typed.specs.Denoted.{Denoted}
 use Rattle.ddl_typed.specs.Told.{IsAnswer, Shown, Told, shown, told_of}
 
@@ -38,5 +38,5 @@ told_paired None t e = absurd (let n : ⊥ = cc in n)
 told_paired (Some a) t e = shown_paired a.parses t.parses.items (ap told_parses e)
 
 -- each value that is told has as many names and keys as values
-pub answer_paired : (decls : List Decl) (entry : ℕ) (input : List ℕ) (t : Given) → IsAnswer decls entry input (answer_view t) → All (λ (q : Parse). IsPaired (plain_view q.value)) t.parses.items
-answer_paired decls entry input t h = let n = h.enough.0 in told_paired (answer_of (Denoted n decls entry input)) t (h.always n h.enough.1)
+pub answer_paired : (spec : Spec) (entry : ℕ) (input : List ℕ) (t : Given) → IsAnswer spec entry input (answer_view t) → All (λ (q : Parse). IsPaired (plain_view q.value)) t.parses.items
+answer_paired spec entry input t h = let n = h.enough.0 in told_paired (answer_of (Denoted n spec entry input)) t (h.always n h.enough.1)

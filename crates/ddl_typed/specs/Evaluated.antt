@@ -6,12 +6,13 @@ use Rattle.ddl_base.specs.declared.span.Span.{Span}
 use Rattle.ddl_types.specs.Value.{Value, Stream, in_input, unit, array}
 use Rattle.ddl_types.specs.Types.{Ty}
 use Rattle.ddl_types.specs.Outcome.{Outcome, parsed, missed, unticked}
-use Rattle.ddl_typed.specs.Tree.{Expr, Items, Item, expr, text}
+use Rattle.ddl_typed.specs.Tree.{no_spec, Expr, Items, Item, expr, text}
 use Rattle.ddl_typed.specs.Env.{Env, empty, with_value}
 use Rattle.ddl_typed.specs.Valued.{Valued}
 use Rattle.ddl_typed.specs.Blocks as b
 use Rattle.ddl_typed.specs.Primitives.{byte_values, one_byte, at_end, match_bytes}
-use Rattle.ddl_typed.specs.Meaning.{bottom, val, den, den_items, den_item}
+use Rattle.ddl_typed.specs.Lower.{bottom}
+use Rattle.ddl_typed.specs.Meaning.{val, den, den_items, den_item}
 use Rattle.ddl_typed.specs.SharedView.{shared_view, parts_view}
 use Rattle.ddl_typed.specs.AnswerView.{source_of}
 use Rattle.ddl_typed.specs.declared.shared.Shared.{Shared}
@@ -49,13 +50,13 @@ built_view built = record { named = parts_view built.parts.items; result = resul
 
 -- the meaning of a form without its ticks; the simple forms need no depth
 unfoldable pub meant : List ℕ → Expr → Env → ℕ → Outcome
-meant input e env at = unticked (den [] bottom e env (stream_at input at))
+meant input e env at = unticked (den no_spec bottom e env (stream_at input at))
 
 unfoldable pub meant_item : List ℕ → Item → Env → ℕ → Outcome
-meant_item input i env at = unticked (den_item [] bottom i env (stream_at input at))
+meant_item input i env at = unticked (den_item no_spec bottom i env (stream_at input at))
 
 unfoldable pub meant_items : List ℕ → Items → Env → b.Built → ℕ → Outcome
-meant_items input is env built at = unticked (den_items [] bottom is env built (stream_at input at))
+meant_items input is env built at = unticked (den_items no_spec bottom is env built (stream_at input at))
 
 -- the next byte
 unfoldable pub byte_at : List ℕ → Span → ℕ → Outcome
@@ -71,7 +72,7 @@ matched input bs whole span at = unticked (match_bytes bs (array (byte_values wh
 
 -- the value of a value form
 unfoldable pub simple_value_of : Expr → Env → Valued
-simple_value_of e env = val [] bottom e env
+simple_value_of e env = val no_spec bottom e env
 
 -- the outcome is this value or this failure; where memory ran out nothing is said
 abbrev pub Gives : List ℕ → Outcome → Result Parsed Stop → Type 0

@@ -61,6 +61,6 @@ item_layer (TItem-F.Result e) = t.result_ (view e)
 abbrev pub expr_layer : TExpr-F TForm TItem TExpr → t.Expr
 expr_layer e = t.expr (form_view e.form) (ty_view e.of) e.span
 
--- a declaration
-abbrev pub decl_view : TDecl → t.Decl
-decl_view d = record { name = d.span; body = view d.body }
+-- the specification of a declaration alone
+abbrev pub alone_view : TDecl → t.Spec
+alone_view d = t.alone d.span (view d.body)

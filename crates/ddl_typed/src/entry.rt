@@ -8,7 +8,7 @@ ghost use Rattle.ddl_typed.specs.Evaluated.{rc_view, stream_at, meant};
 ghost use Rattle.ddl_typed.specs.Env.{empty};
 ghost use Rattle.ddl_typed.specs.Simple.{IsSimple};
 ghost use Rattle.ddl_typed.specs.Told.{IsAnswer, told};
-ghost use Rattle.ddl_typed.specs.View.{decl_view, view};
+ghost use Rattle.ddl_typed.specs.View.{alone_view, view};
 
 use crate::TDecl;
 use crate::answer::{Answer, Close, Failure, Parse};
@@ -27,7 +27,7 @@ const MAX_DEPTH: u32 = 120;
 /// they read and the value that is told.
 pub fn denote(alloc: Global, entry: &TDecl, input: &[u8]) -> Result<Answer, NoMemory>
     requires { IsSimple (view entry.now.body) 0 }
-    ensures answer { IfOk result (λ answer. IsAnswer (decl_view entry.now ∷ []) 0 input.now (answer_view answer)) }
+    ensures answer { IfOk result (λ answer. IsAnswer (alone_view entry.now) 0 input.now (answer_view answer)) }
     ensures paired { IfOk result (λ answer. All (λ parse. IsPaired (plain_view parse.value)) answer.parses.items) }
 {
     let answer = told_at(alloc, entry, input)?;

@@ -3,6 +3,8 @@ pub mod Arguments
 pub mod BestFailureRows
 pub mod Growing
 pub mod Joins
+pub mod KeptCut
+pub mod KeptTwice
 pub mod NumRows
 pub mod PlainLayers
 pub mod PlainRows
