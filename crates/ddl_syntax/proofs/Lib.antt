@@ -1,13 +1,13 @@
-pub mod Tokens
-pub mod Types
+mod Examples
 pub mod Classes
 pub mod Levels
-pub mod ReadsForms
-pub mod ReadsLists
-pub mod ReadsCalls
 pub mod ReadsBindings
-pub mod ReadsItems
-pub mod ReadsExpr
+pub mod ReadsCalls
 pub mod ReadsDecl
+pub mod ReadsExpr
+pub mod ReadsForms
+pub mod ReadsItems
+pub mod ReadsLists
 pub mod ReadsModule
-mod Examples
+pub mod Tokens
+pub mod Types
