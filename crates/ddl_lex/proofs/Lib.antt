@@ -13,3 +13,5 @@ pub mod Digits
 pub mod Commented
 pub mod Namely
 pub mod Quoted
+pub mod Longest
+pub mod Next
