@@ -13,3 +13,5 @@ pub mod Runs
 pub mod Spelled
 pub mod Steps
 pub mod Values
+pub mod Longest
+pub mod Next

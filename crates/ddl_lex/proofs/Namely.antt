@@ -1,5 +1,5 @@
 -- Words, names, classes and marks: those that are found are the longest forms.
-use Rattle.std.proofs.Common.{◌≡◌, ◌≢◌, ◌⊎◌, ◌<◌, ◌≤◌, ℕ, zero, suc, ◌+◌, ◌-◌, ◌==◌, ◌&&◌, ◌||◌, nat_lt, Bool, true, false, List, [], ◌∷◌, ◌++◌, length, take, drop, get_or, Option, Some, None, inl, inr, refl, ap, sym, subst, ◌∙◌, arith, if◌then◌else◌}
+use Rattle.std.proofs.Common.{◌≡◌, ◌⊎◌, ◌<◌, ◌≤◌, ℕ, zero, suc, ◌+◌, ◌==◌, ◌&&◌, ◌||◌, nat_lt, Bool, true, false, List, [], ◌∷◌, length, take, get_or, Option, Some, None, inl, inr, refl, ap, sym, subst, ◌∙◌, arith, if◌then◌else◌}
 use Rattle.std.proofs.lemmas.Bool.{ltb-true, lt-ltb}
 use Rattle.std.proofs.lemmas.Bool.Decides.{nat_tests}
 use Rattle.ddl_token.specs.declared.word.Word.{Word}
@@ -8,14 +8,14 @@ use Rattle.ddl_token.specs.declared.token.Tok.{Tok}
 use Rattle.ddl_token.specs.declared.token.Tok.TheVariants as t
 use Rattle.ddl_token.specs.Spelling.{word_spelling, mark_spelling}
 use Rattle.ddl_lex.specs.Letters.{is_capital, is_small, is_name, is_white, run}
-use Rattle.ddl_lex.specs.Names.{begins_name, begins_class, named, signed_word, longer_word, word_of, word_or_name, no_word, class}
+use Rattle.ddl_lex.specs.Names.{begins_name, begins_class, named, signed_word, longer_word, word_of, word_or_name}
 use Rattle.ddl_lex.specs.Marks.{mark_of}
 use Rattle.ddl_lex.specs.Pieces.{begins_with}
-use Rattle.ddl_lex.specs.Forms.{IsForm, IsName, IsHidden, IsClass, IsNoWord, IsWhite, IsLineComment, IsComment, AllPass, NoLonger, IsLongest}
-use Rattle.ddl_lex.proofs.Runs.{run_most, run_passes, run_within}
+use Rattle.ddl_lex.specs.Forms.{IsForm, IsHidden, IsClass, IsNoWord, IsWhite, IsLineComment, IsComment, AllPass, NoLonger, IsLongest}
+use Rattle.ddl_lex.proofs.Runs.{run_passes, run_within}
 use Rattle.ddl_lex.proofs.Spelled.{word_found, no_word_found}
 use Rattle.ddl_lex.proofs.Marked.{mark_most, mark_begins, no_mark_begins, mark_some}
-use Rattle.ddl_lex.proofs.Lengths.{taken, capital_name, small_name, hidden_byte, line_byte, comment_byte, IsRunOrWord, letter_length, hidden_length, class_no_longer}
+use Rattle.ddl_lex.proofs.Lengths.{taken, small_name, IsRunOrWord, letter_length, hidden_length, class_no_longer}
 use Rattle.ddl_lex.proofs.Firsts.{is_letter, letter_class, class_of, Begins, begins, small_class, white_class}
 
 pub either : (a b : Bool) → (a || b) ≡ true → (a ≡ true) ⊎ (b ≡ true)
@@ -35,9 +35,9 @@ Starts b bs = (is_letter b ≡ true) ⊎ ((b ≡ 95) × (is_name (get_or bs 0 0)
 
 starts : (b : ℕ) (bs : List ℕ) → begins_name (b ∷ bs) ≡ true → Starts b bs
 starts b bs h = elim (either (is_letter b) (b == 95 && is_name (get_or bs 0 0)) h) as (λ _. Starts b bs) [
-    inl l ↦ inl l
+  | inl l ↦ inl l
   | inr u ↦ (let x = both (b == 95) (is_name (get_or bs 0 0)) u in inr (equal_of b 95 x.0, x.1))
-  ]
+]
 
 letter_name : (b : ℕ) → is_letter b ≡ true → is_name b ≡ true
 letter_name b h = rw h refl
@@ -73,13 +73,13 @@ split (suc k) (suc n) h = elim (split k n (omega arith)) as (λ _. (suc k ≤ su
 no_longer_by : (text : List ℕ) (k : ℕ) → k ≤ length text → signed_word (run is_name text) text ≡ None → IsRunOrWord text k → k ≤ run is_name text
 no_longer_by text k h e (inl x) = x
 no_longer_by text k h e (inr (w, s, l)) = elim (split k (run is_name text) l) as (λ _. k ≤ run is_name text) [
-    inl x ↦ x
+  | inl x ↦ x
   | inr x ↦ (
       let room : nat_lt (run is_name text) (length text) ≡ true = lt-ltb (run is_name text) (length text) (omega arith) in
       let none = signed_none (nat_lt (run is_name text) (length text)) (word_of (take (run is_name text + 1) text)) e room in
       let there : word_spelling w ≡ take (run is_name text + 1) text = sym s ∙ ap (λ z. take z text) x in
       absurd (no_word_found (take (run is_name text + 1) text) none w there))
-  ]
+]
 
 -- a name that is no word
 small_of : (b : ℕ) → is_capital b ≡ false → is_letter b ≡ true → is_small b ≡ true

@@ -1,5 +1,5 @@
 -- Texts and characters: those that are found are the longest forms.
-use Rattle.std.proofs.Common.{◌≡◌, ◌≢◌, ◌⊎◌, ◌<◌, ◌≤◌, ℕ, zero, suc, ◌+◌, ◌-◌, ◌*◌, ◌==◌, ◌&&◌, ◌||◌, nat_lt, Bool, true, false, List, [], ◌∷◌, ◌++◌, length, take, drop, get_or, Option, Some, None, Result, Ok, Err, inl, inr, refl, ap, sym, subst, ◌∙◌, arith, if◌then◌else◌}
+use Rattle.std.proofs.Common.{◌≡◌, ◌<◌, ◌≤◌, ℕ, zero, suc, ◌+◌, ◌-◌, ◌*◌, ◌==◌, ◌&&◌, ◌||◌, Bool, true, false, List, [], ◌∷◌, length, take, drop, get_or, Option, Some, None, Result, Ok, Err, inl, inr, refl, ap, sym, subst, ◌∙◌, arith, if◌then◌else◌}
 use Rattle.ddl_token.specs.declared.token.Tok.{Tok}
 use Rattle.ddl_token.specs.declared.token.Tok.TheVariants as t
 use Rattle.ddl_lex.specs.declared.error.LexError.{LexError}
@@ -84,7 +84,7 @@ literal_more quote s a s' a' (suc skip) (b ∷ bs) (suc k) n bytes e = later_mor
 literal_more quote s a s' a' zero (b ∷ bs) (suc k) n bytes e =
     let el = element quote (b ∷ take k bs) in
     let r = read_more s a s' a' el n bytes (literal quote s (a + 1) (bytes_behind el) (take k bs)) (literal quote s' (a' + 1) (bytes_behind el) bs)
-      (λ c m f. literal_more quote s (a + 1) s' (a' + 1) (bytes_behind el) bs k m c f) e in
+    (λ c m f. literal_more quote s (a + 1) s' (a' + 1) (bytes_behind el) bs k m c f) e in
     let same = element_more quote b bs k r.0 in
     subst (λ z. read s' a' z (literal quote s' (a' + 1) (bytes_behind z) bs) ≡ Ok (bytes, n)) (sym same) r.1
 
@@ -131,7 +131,7 @@ escape_short [] k v j e h = cc
 escape_short (b ∷ bs) zero v j e h = absurd (let x = escape_two b bs v j e in omega arith)
 escape_short (b ∷ bs) (suc k) v j e h =
     short_by (b == 110) _ _ _ v j (short_by (b == 116) _ _ _ v j (short_by (b == 114) _ _ _ v j (short_by (b == 92 || b == 34 || b == 39) _ _ _ v j
-      (λ e'. then_by (b == 120) _ _ NoEscape v j (λ e''. hexadecimal_short bs k v j e'' h) e')))) e
+    (λ e'. then_by (b == 120) _ _ NoEscape v j (λ e''. hexadecimal_short bs k v j e'' h) e')))) e
 
 element_short : (quote b : ℕ) (bs : List ℕ) (k v j : ℕ) → element quote (b ∷ bs) ≡ Means v j → j ≤ suc k → element quote (b ∷ take k bs) ≡ Means v j
 element_short quote b bs k v j e h = short_by (b == quote) _ _ _ v j (short_by (b == 10) _ _ _ v j (λ e'. then_by (b == 92) _ _ (if is_control b then Control else Means b 1) v j (λ e''. escape_short bs k v j e'' h) e')) e
@@ -190,13 +190,13 @@ whole_at quote s a b bs bytes n (Means v j) el rest h =
     let w = rest x.1 x.0 s (a + 1) x.4 in
     let short = element_short quote b bs x.0 v j el (omega (arith, w.1)) in
     let all : (s' a' : ℕ) → literal quote s' a' 0 (b ∷ take x.0 bs) ≡ Ok (v ∷ x.1, suc x.0) = λ s' a'.
-      (subst (λ z. read s' a' z (literal quote s' (a' + 1) (bytes_behind z) (take x.0 bs)) ≡ Ok (v ∷ x.1, suc x.0)) (sym short) (ap (meaning v) (w.2 s' (a' + 1)))) in
+    (subst (λ z. read s' a' z (literal quote s' (a' + 1) (bytes_behind z) (take x.0 bs)) ≡ Ok (v ∷ x.1, suc x.0)) (sym short) (ap (meaning v) (w.2 s' (a' + 1)))) in
     whole_of quote 0 (b ∷ bs) bytes (v ∷ x.1) n (suc x.0) x.2 x.3 (omega (arith, w.0)) (omega arith) all
 whole_at quote s a b bs bytes n Closes el rest h =
     let pair : List ℕ × ℕ = ([], 1) in let want : List ℕ × ℕ = (bytes, n) in let same : pair ≡ want = cc in
     let one = element_closes quote b bs el in
     let all : (s' a' : ℕ) → literal quote s' a' 0 (b ∷ []) ≡ Ok ([], 1) = λ s' a'.
-      (subst (λ z. read s' a' z (literal quote s' (a' + 1) (bytes_behind z) []) ≡ Ok ([], 1)) (sym one) refl) in
+    (subst (λ z. read s' a' z (literal quote s' (a' + 1) (bytes_behind z) []) ≡ Ok ([], 1)) (sym one) refl) in
     whole_of quote 0 (b ∷ bs) bytes [] n 1 (sym (ap (λ z. z.1) same)) (sym (ap (λ z. z.0) same)) (omega arith) (omega arith) all
 whole_at quote s a b bs bytes n Ends el rest h = cc
 whole_at quote s a b bs bytes n Control el rest h = cc
@@ -288,7 +288,7 @@ if_found : (c : Bool) (x : Option Tok) (n : ℕ) (good bad : Result (Option Tok 
 if_found true x n good bad e found m g f h = let pair : Option Tok × ℕ = (found, m) in let want : Option Tok × ℕ = (x, n) in let same : pair ≡ want = cc in (refl, ap (λ z. z.0) same, ap (λ z. z.1) same)
 if_found false x n good bad e found m g f h = absurd (cc)
 
-character_by : (start : ℕ) (inside : List ℕ) (e : Element) (found : Option Tok) (m : ℕ) → character_of start inside e ≡ Ok (found, m) →
+pub character_by : (start : ℕ) (inside : List ℕ) (e : Element) (found : Option Tok) (m : ℕ) → character_of start inside e ≡ Ok (found, m) →
     (v : ℕ) × (n : ℕ) × (e ≡ Means v n) × ((get_or inside n 0 == 39) ≡ true) × (found ≡ Some (t.Char v)) × (m ≡ n + 2)
 character_by start inside (Means v n) found m h =
     let good : Result (Option Tok × ℕ) LexError = Ok (Some (t.Char v), n + 2) in
