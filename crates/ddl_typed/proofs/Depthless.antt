@@ -1,5 +1,5 @@
 -- The simple forms mean the same at every depth.
-use Rattle.std.proofs.Common.{◌≡◌, ℕ, List, [], refl, ap, ◌∙◌}
+use Rattle.std.proofs.Common.{◌≡◌, ℕ, refl, ap, ◌∙◌}
 use Rattle.ddl_base.specs.declared.span.Span.{Span}
 use Rattle.ddl_types.specs.Types.{Ty}
 use Rattle.ddl_types.specs.Value.{Value, Stream}

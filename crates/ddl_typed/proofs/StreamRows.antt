@@ -1,16 +1,16 @@
 -- Worked rows of numbers, streams and maps, computed on the definitions.
-use Rattle.std.proofs.Common.{◌≡◌, ℕ, List, [], ◌∷◌, refl, Some, None}
+use Rattle.std.proofs.Common.{◌≡◌, ℕ, List, [], refl, Some}
 use Rattle.std.specs.Prelude.{codes, pos}
 use Rattle.ddl_base.specs.declared.why.Why.TheVariants as why
 use Rattle.ddl_types.specs.declared.fault.Fault.TheVariants.{DivZero}
 use Rattle.ddl_types.specs.declared.num.NumType.TheVariants as N
-use Rattle.ddl_types.specs.Value.{Value, Stream, in_input, in_array, number, unit, mapping, no_pairs, pair}
-use Rattle.ddl_types.specs.Outcome.{Faulted, ends, tick, miss, parsed, missed}
+use Rattle.ddl_types.specs.Value.{in_input, in_array, number, unit, mapping, no_pairs, pair}
+use Rattle.ddl_types.specs.Outcome.{Faulted, ends, miss, parsed, missed}
 use Rattle.ddl_types.specs.Answer.{answer_of, failed, faulted}
 use Rattle.ddl_arith.specs.declared.operation.Op.TheVariants.{Add, Div}
 use Rattle.ddl_typed.specs.Tree.{Expr, Spec, expr, literal, paren, infix_, arithmetic, builtin, array_stream, empty_map, insert_into, primitive, get_stream, set_stream, take_from, drop_from, lookup_key, no_exprs, more, end, first, no_alts, tag, block, no_items, item, plain, let_}
 use Rattle.ddl_typed.specs.Denoted.{Denoted}
-use Rattle.ddl_typed.proofs.RowForms.{span, other, byte_type, unit_type, bool_type, main, rest_of, text_at, match_text, local_at, pure_at, uint_type, int_at, count_at, an_int, text_value, ticking, one_parse, no_parse}
+use Rattle.ddl_typed.proofs.RowForms.{span, other, unit_type, main, rest_of, text_at, match_text, local_at, pure_at, uint_type, int_at, count_at, an_int, text_value, ticking, one_parse, no_parse}
 
 -- ---- numbers
 

@@ -1,5 +1,5 @@
 -- Environments.
-use Rattle.std.specs.Prelude.{ℕ, ◌==◌, Bool, true, false, if◌then◌else◌, Option, Some, None}
+use Rattle.std.specs.Prelude.{ℕ, ◌==◌, Bool, false, if◌then◌else◌, Option, Some, None}
 use Rattle.ddl_types.specs.Types.{Ty, var, on}
 use Rattle.ddl_types.specs.Value.{Value}
 use Rattle.ddl_typed.specs.Tree.{Expr, Name, own, under}

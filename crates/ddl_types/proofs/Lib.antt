@@ -4,6 +4,7 @@ pub mod BestFailureRows
 pub mod Growing
 pub mod Joins
 pub mod KeptCut
+pub mod KeptSame
 pub mod KeptTwice
 pub mod NumRows
 pub mod PlainLayers
