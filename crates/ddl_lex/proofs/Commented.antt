@@ -1,10 +1,10 @@
 -- Comments: that which is found is the longest form.
-use Rattle.std.proofs.Common.{◌≡◌, ◌≢◌, ◌⊎◌, ◌<◌, ◌≤◌, ℕ, zero, suc, ◌+◌, ◌-◌, ◌==◌, ◌&&◌, ◌||◌, Bool, true, false, List, [], ◌∷◌, ◌++◌, length, take, drop, get_or, Option, Some, None, inl, inr, refl, ap, sym, subst, ◌∙◌, arith, if◌then◌else◌}
+use Rattle.std.proofs.Common.{◌≡◌, ◌≤◌, ℕ, zero, suc, ◌+◌, ◌||◌, Bool, true, false, List, [], ◌∷◌, length, take, Option, Some, None, inl, inr, refl, ap, sym, subst, ◌∙◌, arith, if◌then◌else◌}
 use Rattle.ddl_token.specs.declared.token.Tok.{Tok}
 use Rattle.ddl_token.specs.declared.token.Tok.TheVariants as t
 use Rattle.ddl_lex.specs.Letters.{in_line, run}
 use Rattle.ddl_lex.specs.Comments.{comment, one_more, opens, ends}
-use Rattle.ddl_lex.specs.Forms.{IsForm, IsName, IsHidden, AllPass, NoLonger, IsLongest, IsWhite, IsLineComment, IsComment}
+use Rattle.ddl_lex.specs.Forms.{IsForm, AllPass, NoLonger, IsLongest, IsLineComment, IsComment}
 use Rattle.ddl_lex.proofs.Runs.{run_most, run_passes, run_within}
 use Rattle.ddl_lex.proofs.Lengths.{taken, white_length, mark_length, line_byte, comment_byte, hidden_byte}
 use Rattle.ddl_lex.proofs.Firsts.{class_of, Begins, begins, small_class}

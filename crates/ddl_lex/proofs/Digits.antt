@@ -1,5 +1,6 @@
 -- The number at a place has all digits of its base that follow.
-use Rattle.std.proofs.Common.{◌≡◌, ◌≢◌, ◌⊎◌, ◌<◌, ◌≤◌, ℕ, zero, suc, ◌+◌, ◌-◌, ◌==◌, ◌&&◌, ◌||◌, ◌^◌, nat_le, nat_lt, Bool, true, false, List, [], ◌∷◌, ◌++◌, length, take, drop, get_or, Option, Some, None, Result, Ok, Err, inl, inr, refl, ap, sym, subst, ◌∙◌, arith, if◌then◌else◌}
+use Rattle.std.proofs.Common.{◌≡◌, ◌<◌, ◌≤◌, ℕ, zero, suc, ◌+◌, ◌==◌, ◌&&◌, ◌^◌, nat_lt, Bool, true, false, List, [], ◌∷◌, ◌++◌, length, take, drop, Option, Some, None, Result, Ok, Err, inl, inr, refl, ap, sym, subst, ◌∙◌, arith, if◌then◌else◌}
+use Rattle.std.proofs.lemmas.Bool.{ltb-true}
 use Rattle.std.proofs.lemmas.Bool.Decides.{nat_tests}
 use Rattle.ddl_token.specs.declared.token.Tok.{Tok}
 use Rattle.ddl_token.specs.declared.token.Tok.TheVariants as t
@@ -9,8 +10,8 @@ use Rattle.ddl_lex.specs.declared.error.LexError.{LexError}
 use Rattle.ddl_lex.specs.declared.error.LexError.TheVariants.{NumberTooWide}
 use Rattle.ddl_lex.specs.Letters.{is_decimal, between, run}
 use Rattle.ddl_lex.specs.Literals.{is_hexadecimal}
-use Rattle.ddl_lex.specs.Numbers.{is_digit_of, radix, base_mark, base_of, value_behind, number, number_of}
-use Rattle.ddl_lex.specs.Forms.{IsForm, IsNumber, AllPass, NoLonger, IsLongest, base_spelling}
+use Rattle.ddl_lex.specs.Numbers.{is_digit_of, radix, base_mark, base_of, value_behind, number}
+use Rattle.ddl_lex.specs.Forms.{IsForm, IsNumber, AllPass, NoLonger, IsLongest, Fits, base_spelling}
 use Rattle.ddl_lex.proofs.Runs.{run_most, run_passes, run_within}
 use Rattle.ddl_lex.proofs.Lengths.{taken}
 use Rattle.ddl_lex.proofs.Firsts.{class_of, Begins, begins}
@@ -166,9 +167,11 @@ decimal_bytes b bs h =
 marked_bytes : (x : ℕ) (p : ℕ → Bool) (a b d : ℕ) (rest : List ℕ) → a ≡ 48 → b ≡ x → p d ≡ true → let n = run p (d ∷ rest) in
     (take (2 + n) (a ∷ b ∷ d ∷ rest) ≡ (48 ∷ x ∷ []) ++ take n (d ∷ rest)) × (0 < n) × (2 + n ≤ length (a ∷ b ∷ d ∷ rest))
 marked_bytes x p a b d rest e f h =
-    let s : 2 + run p (d ∷ rest) ≡ suc (suc (run p (d ∷ rest))) = omega arith in
-    (ap (λ z. take z (a ∷ b ∷ d ∷ rest)) s ∙ ap (λ z. z ∷ b ∷ take (run p (d ∷ rest)) (d ∷ rest)) e ∙ ap (λ z. 48 ∷ z ∷ take (run p (d ∷ rest)) (d ∷ rest)) f,
-     run_some p d rest h, omega (arith, run_within p (d ∷ rest)))
+    let s : 2 + run p (d ∷ rest) ≡ suc (suc (run p (d ∷ rest))) = omega arith in (
+      ap (λ z. take z (a ∷ b ∷ d ∷ rest)) s ∙ ap (λ z. z ∷ b ∷ take (run p (d ∷ rest)) (d ∷ rest)) e ∙ ap (λ z. 48 ∷ z ∷ take (run p (d ∷ rest)) (d ∷ rest)) f,
+      run_some p d rest h,
+      omega (arith, run_within p (d ∷ rest)),
+    )
 
 bytes_by : (a b d : ℕ) (rest : List ℕ) (hex bin : Bool) → marks_base 120 is_hexadecimal a b d ≡ hex → marks_base 98 (between 48 49) a b d ≡ bin → is_decimal a ≡ true → Bytes (base_by hex bin) (a ∷ b ∷ d ∷ rest)
 bytes_by a b d rest true bin e f h = let m = marked 120 is_hexadecimal a b d e in marked_bytes 120 is_hexadecimal a b d rest m.0 m.1 m.2
@@ -181,8 +184,8 @@ bytes b (c ∷ []) h = decimal_bytes b (c ∷ []) h
 bytes b (c ∷ d ∷ rest) h = bytes_by b c d rest (marks_base 120 is_hexadecimal b c d) (marks_base 98 (between 48 49) b c d) refl refl h
 
 number_by : (tok : Tok) (n : ℕ) (v : Bool) (good bad : Result (Option Tok × ℕ) LexError) (e : LexError) (found : Option Tok) (k : ℕ) →
-    good ≡ Ok (Some tok, n) → bad ≡ Err e → (if v then good else bad) ≡ Ok (found, k) → (found ≡ Some tok) × (k ≡ n)
-number_by tok n true good bad e found k g f h = let pair : Option Tok × ℕ = (found, k) in let want : Option Tok × ℕ = (Some tok, n) in let same : pair ≡ want = cc in (ap (λ z. z.0) same, ap (λ z. z.1) same)
+    good ≡ Ok (Some tok, n) → bad ≡ Err e → (if v then good else bad) ≡ Ok (found, k) → (found ≡ Some tok) × (k ≡ n) × (v ≡ true)
+number_by tok n true good bad e found k g f h = let pair : Option Tok × ℕ = (found, k) in let want : Option Tok × ℕ = (Some tok, n) in let same : pair ≡ want = cc in (ap (λ z. z.0) same, ap (λ z. z.1) same, refl)
 number_by tok n false good bad e found k g f h = absurd (cc)
 
 -- the number that is found is the longest form
@@ -201,3 +204,15 @@ number_longest at b bs found k d c h =
     let form : IsNumber value base n (take (base_mark base + n) text) = (take n digits, all.0, run_passes (is_digit_of base) digits, count, all.1, refl) in
     let longest : IsLongest (Some (t.Number value base n)) (base_mark base + n) text = (all.2, omega (arith, all.1), form, number_no_longer b bs c) in
     subst (λ z. IsLongest z k text) (sym is.0) (subst (λ z. IsLongest (Some (t.Number value base n)) z text) (sym is.1) longest)
+
+-- the number that is found fits
+pub number_fits : (at : ℕ) (text : List ℕ) (found : Option Tok) (k : ℕ) → number at text ≡ Ok (found, k) → Fits found
+number_fits at text found k h =
+    let base = base_of text in
+    let digits = drop (base_mark base) text in
+    let n = run (is_digit_of base) digits in
+    let value = value_behind (radix base) 0 (take n digits) in
+    let good : Result (Option Tok × ℕ) LexError = Ok (Some (t.Number value base n), base_mark base + n) in
+    let bad : Result (Option Tok × ℕ) LexError = Err (NumberTooWide at) in
+    let is = number_by (t.Number value base n) (base_mark base + n) (nat_lt value (2 ^ 128)) good bad (NumberTooWide at) found k refl refl h in
+    subst Fits (sym is.0) (ltb-true value (2 ^ 128) is.2)

@@ -1,5 +1,5 @@
 -- With which bytes the forms begin.
-use Rattle.std.proofs.Common.{◌≡◌, ◌<◌, ◌≤◌, ℕ, zero, suc, ◌==◌, ◌&&◌, ◌||◌, if◌then◌else◌, Bool, true, false, not, List, [], ◌∷◌, ◌++◌, length, get_or, Option, Some, None, ◌⊎◌, inl, inr, refl, ap, sym, subst, ◌∙◌, arith}
+use Rattle.std.proofs.Common.{◌≡◌, ℕ, ◌==◌, ◌||◌, if◌then◌else◌, Bool, true, false, List, [], ◌∷◌, get_or, Option, Some, None, ◌⊎◌, inl, inr, refl, ap, sym, subst, ◌∙◌, arith}
 use Rattle.std.proofs.lemmas.Bool.Decides.{nat_tests}
 use Rattle.ddl_token.specs.declared.word.Word.{Word}
 use Rattle.ddl_token.specs.declared.word.Word.TheVariants as w
@@ -10,7 +10,7 @@ use Rattle.ddl_token.specs.declared.token.Tok.TheVariants as t
 use Rattle.ddl_token.specs.declared.token.Base.{Base}
 use Rattle.ddl_token.specs.declared.token.Base.TheVariants.{Decimal, Hexadecimal, Binary}
 use Rattle.ddl_token.specs.Spelling.{word_spelling, mark_spelling}
-use Rattle.ddl_lex.specs.Letters.{is_capital, is_small, is_decimal, is_name, is_white, between}
+use Rattle.ddl_lex.specs.Letters.{is_capital, is_small, is_decimal, is_white}
 use Rattle.ddl_lex.specs.Forms.{IsForm, IsNumber, IsName, IsHidden, AllPass}
 
 -- a letter
@@ -132,7 +132,6 @@ mark_first m.Comma = refl
 mark_first m.Semicolon = refl
 mark_first m.Colon = refl
 mark_first m.Underscore = refl
-
 
 same_first : (b : ℕ) (bs spelling : List ℕ) (c : ℕ) → b ∷ bs ≡ spelling → class_of (get_or spelling 0 0) ≡ c → class_of b ≡ c
 same_first b bs spelling c e h = subst (λ z. class_of (get_or z 0 0) ≡ c) (sym e) h

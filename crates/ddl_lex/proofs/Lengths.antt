@@ -1,17 +1,17 @@
 -- How long the forms are that begin with a byte of a class.
-use Rattle.std.proofs.Common.{◌≡◌, ◌≢◌, ◌⊎◌, ◌<◌, ◌≤◌, ℕ, zero, suc, ◌+◌, ◌-◌, ◌==◌, ◌&&◌, ◌||◌, nat_le, Bool, true, false, List, [], ◌∷◌, ◌++◌, length, take, drop, get_or, Option, Some, None, inl, inr, refl, ap, sym, subst, ◌∙◌, arith, if◌then◌else◌}
+use Rattle.std.proofs.Common.{◌≡◌, ◌≢◌, ◌⊎◌, ◌≤◌, ℕ, zero, suc, ◌||◌, nat_le, Bool, true, false, List, [], ◌∷◌, length, take, get_or, Option, Some, None, inl, inr, refl, ap, sym, subst, ◌∙◌, arith, if◌then◌else◌}
 use Rattle.std.proofs.lemmas.Bool.Decides.{nat_tests}
 use Rattle.ddl_token.specs.declared.word.Word.{Word}
 use Rattle.ddl_token.specs.declared.mark.Mark.{Mark}
 use Rattle.ddl_token.specs.declared.token.Tok.{Tok}
 use Rattle.ddl_token.specs.declared.token.Tok.TheVariants as t
 use Rattle.ddl_token.specs.Spelling.{word_spelling, mark_spelling}
-use Rattle.ddl_lex.specs.Letters.{is_capital, is_small, is_decimal, is_name, is_white, run}
-use Rattle.ddl_lex.specs.Forms.{IsForm, IsNumber, IsName, IsHidden, IsClass, IsWhite, IsLineComment, IsComment, AllPass, NoLonger}
+use Rattle.ddl_lex.specs.Letters.{is_capital, is_small, is_name, run}
+use Rattle.ddl_lex.specs.Forms.{IsForm, IsName, IsHidden, IsWhite, IsLineComment, IsComment, AllPass, NoLonger}
 use Rattle.ddl_lex.proofs.Runs.{run_most}
 use Rattle.ddl_lex.proofs.Spelled.{word_front}
 use Rattle.ddl_lex.proofs.Marked.{mark_short}
-use Rattle.ddl_lex.proofs.Firsts.{is_letter, class_of, Begins, begins, small_class}
+use Rattle.ddl_lex.proofs.Firsts.{class_of, Begins, begins, small_class}
 
 pub taken : (text : List ℕ) (k : ℕ) → k ≤ length text → length (take k text) ≡ k
 taken [] zero h = refl

@@ -6,8 +6,12 @@ pub mod Firsts
 pub mod Lengths
 pub mod Marked
 pub mod Named
+pub mod Namely
 pub mod Opened
+pub mod Quoted
 pub mod Runs
 pub mod Spelled
 pub mod Steps
 pub mod Values
+pub mod Longest
+pub mod Next

@@ -1,7 +1,7 @@
 -- The mark that is found is the longest.
-use Rattle.std.proofs.Common.{◌≡◌, ◌≢◌, ◌⊎◌, ◌<◌, ◌≤◌, ℕ, zero, suc, ◌+◌, Bool, true, false, nat_le, nat_eq, List, [], ◌∷◌, ◌++◌, length, take, drop, get_or, Option, Some, None, inl, inr, refl, ap, sym, subst, ◌∙◌, arith, if◌then◌else◌}
+use Rattle.std.proofs.Common.{◌≡◌, ◌≢◌, ◌⊎◌, ◌<◌, ◌≤◌, ℕ, Bool, true, false, nat_le, nat_lt, nat_eq, List, [], ◌∷◌, length, take, get_or, Some, None, inl, inr, refl, sym, subst, arith, if◌then◌else◌}
 use Rattle.std.specs.List.{starts_with}
-use Rattle.std.specs.Str.{bytes_eq}
+use Rattle.std.proofs.lemmas.Bool.{ltb-true}
 use Rattle.std.proofs.lemmas.Bool.Decides.{nat_tests}
 use Rattle.std.proofs.lemmas.Slice.Eq.{bytes_eq-Decides}
 use Rattle.ddl_token.specs.declared.mark.Mark.{Mark}
@@ -170,3 +170,52 @@ mark_short m.Comma = inr (omega arith)
 mark_short m.Semicolon = inr (omega arith)
 mark_short m.Colon = inr (omega arith)
 mark_short m.Underscore = inr (omega arith)
+
+some_test : (mark : Mark) → nat_lt 0 (length (mark_spelling mark)) ≡ true
+some_test m.OrElse = refl
+some_test m.Bar = refl
+some_test m.OrOr = refl
+some_test m.DollarDollar = refl
+some_test m.DollarBracket = refl
+some_test m.Caret = refl
+some_test m.DotDot = refl
+some_test m.Dot = refl
+some_test m.BitAnd = refl
+some_test m.BitOr = refl
+some_test m.BitXor = refl
+some_test m.Arrow = refl
+some_test m.Equals = refl
+some_test m.EqualEqual = refl
+some_test m.NotEqual = refl
+some_test m.Bang = refl
+some_test m.Less = refl
+some_test m.LessEqual = refl
+some_test m.ShiftLeft = refl
+some_test m.LessHash = refl
+some_test m.Hash = refl
+some_test m.Greater = refl
+some_test m.ShiftRight = refl
+some_test m.GreaterEqual = refl
+some_test m.Plus = refl
+some_test m.Minus = refl
+some_test m.Star = refl
+some_test m.Slash = refl
+some_test m.Percent = refl
+some_test m.Tilde = refl
+some_test m.AndAnd = refl
+some_test m.OpenParen = refl
+some_test m.CloseParen = refl
+some_test m.OpenBracket = refl
+some_test m.CloseBracket = refl
+some_test m.OpenBrace = refl
+some_test m.CloseBrace = refl
+some_test m.OpenUnion = refl
+some_test m.CloseUnion = refl
+some_test m.Comma = refl
+some_test m.Semicolon = refl
+some_test m.Colon = refl
+some_test m.Underscore = refl
+
+-- a mark has bytes
+pub mark_some : (mark : Mark) → 0 < length (mark_spelling mark)
+mark_some mark = ltb-true 0 (length (mark_spelling mark)) (some_test mark)

@@ -1,5 +1,5 @@
 -- The forms of tokens, white space and comments, apart from how they are found.
-use Rattle.std.specs.Prelude.{◌≡◌, ◌≢◌, ◌⊎◌, ◌<◌, ◌≤◌, ℕ, suc, Bool, true, List, [], ◌∷◌, ◌++◌, length, take, drop, Option, Some, None, Result, Ok}
+use Rattle.std.specs.Prelude.{◌≡◌, ◌≢◌, ◌⊎◌, ◌<◌, ◌≤◌, ◌^◌, ℕ, Bool, true, List, [], ◌∷◌, ◌++◌, length, take, Option, Some, None, Ok}
 use Rattle.ddl_token.specs.declared.word.Word.{Word}
 use Rattle.ddl_token.specs.declared.token.Tok.{Tok}
 use Rattle.ddl_token.specs.declared.token.Tok.TheVariants as t
@@ -85,3 +85,8 @@ NoLonger n text = (other : Option Tok) (k : ℕ) → k ≤ length text → IsFor
 -- the first n bytes of the text are of the form, and no form that begins there has more
 abbrev pub IsLongest : Option Tok → ℕ → List ℕ → Type 0
 IsLongest found n text = (n ≤ length text) × (0 < n) × IsForm found (take n text) × NoLonger n text
+
+-- the value of a number is below 2^128
+abbrev pub Fits : Option Tok → Type 0
+Fits (Some (t.Number value base count)) = value < 2 ^ 128
+Fits _ = Unit {0}

@@ -1,6 +1,5 @@
 -- The layout of blocks: which braces and semicolons are added before each token.
-use Rattle.std.specs.Prelude.{ℕ, ◌+◌, Bool, true, false, not, ◌&&◌, ◌||◌, ◌==◌, nat_lt, if◌then◌else◌, List, [], ◌∷◌, ◌++◌, map, Option, Some, None}
-use Rattle.ddl_token.specs.declared.word.Word.{Word}
+use Rattle.std.specs.Prelude.{ℕ, Bool, true, false, not, ◌&&◌, ◌==◌, nat_lt, if◌then◌else◌, List, [], ◌∷◌, ◌++◌, map, Option, Some, None}
 use Rattle.ddl_token.specs.declared.word.Word.TheVariants.{Block, First, Choose, Of, Where}
 use Rattle.ddl_token.specs.declared.mark.Mark.{Mark}
 use Rattle.ddl_token.specs.declared.mark.Mark.TheVariants as m

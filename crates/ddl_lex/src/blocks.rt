@@ -1,7 +1,6 @@
 ghost use Rattle.std.specs.Prelude.{◌≡◌, ◌++◌, ◌∷◌, [], map, IfOk, OnOk, IsSome, None};
 ghost use Rattle.ddl_lex.specs.Layout as spec;
 
-
 use crate::place::Place;
 use crate::roles::{Last, Role, begin_of, is_first, last_of, list_begins, role_of};
 use crate::stack::{Open, Stack};

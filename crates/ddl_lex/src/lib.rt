@@ -17,8 +17,8 @@ mod roles;
 mod stack;
 mod words;
 
-pub use ddl_token::{Base, Mark, Tok, Token, Word};
 pub use blocks::layout;
+pub use ddl_token::{Base, Mark, Tok, Token, Word};
 pub use error::LexError;
 pub use lexer::lex;
 

@@ -74,7 +74,10 @@ fn texts_are_cut_by_longest_match(rt: HostRuntime) -> Result<(), Fail> {
         (b"a -- b \x80\n--\nc", b"la lc "),
         (b"a {- {- \xff -} -- -} b {--} c", b"la lb lc "),
         (b"a--b", b"la "),
-        (b"\"a\\n\\x4f\" 'a' '\\'' '\"'", b"\"\"a\\n\\x4f\" ''a' ''\\'' ''\"' "),
+        (
+            b"\"a\\n\\x4f\" 'a' '\\'' '\"'",
+            b"\"\"a\\n\\x4f\" ''a' ''\\'' ''\"' ",
+        ),
         (b" \t\r\n", b""),
         (b"", b""),
     ];
@@ -121,7 +124,8 @@ fn the_first_error_is_told(rt: HostRuntime) {
 #[test]
 fn literals_have_their_bytes(rt: HostRuntime) -> Result<(), Fail> {
     let alloc = rt.alloc();
-    let text = b"\"\\n\\t\\r\\\\\\\"\\'\\x0aA\x80\" '\\xFf' 0x00Ff 0b101 340282366920938463463374607431768211455";
+    let text =
+        b"\"\\n\\t\\r\\\\\\\"\\'\\x0aA\x80\" '\\xFf' 0x00Ff 0b101 340282366920938463463374607431768211455";
     let tokens = lexed(alloc, text)?;
     let mut numbers = Vec::new(alloc);
     for token in tokens.as_slice() {
@@ -159,7 +163,10 @@ fn a_text_has_at_most_a_million_tokens(rt: HostRuntime) -> Result<(), Fail> {
     text.extend_from_slice(b" --")?;
     assert_eq!(rt; error_of(alloc, text.as_slice()), None);
     text.extend_from_slice(b"\n\"")?;
-    assert_eq!(rt; error_of(alloc, text.as_slice()), Some(LexError::TooManyTokens(1048580)));
+    assert_eq!(rt;
+        error_of(alloc, text.as_slice()),
+        Some(LexError::TooManyTokens(1048580))
+    );
     Ok(())
 }
 
@@ -182,10 +189,7 @@ fn lists_are_laid_out(rt: HostRuntime) -> Result<(), Fail> {
         // Braces that are written.
         (b"block { a ; b }", b"wblock m{ la m; lb m} "),
         // A list that cannot begin inside the one around it is empty.
-        (
-            b"block\n  First\n  a",
-            b"wblock m{ wFirst m{ m} m; la m} ",
-        ),
+        (b"block\n  First\n  a", b"wblock m{ wFirst m{ m} m; la m} "),
         // Two lists that one line ends.
         (
             b"case x of\n  y -> First\n    a\n    b\nc",

@@ -19,5 +19,5 @@ pub mod Rows
 pub mod SharedLayers
 pub mod StreamRows
 pub mod Telling
-pub mod TellingParts
 pub mod TellingJoins
+pub mod TellingParts

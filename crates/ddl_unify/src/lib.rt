@@ -5,6 +5,8 @@ mod heads;
 mod occurs;
 mod reading;
 mod refusal;
+#[cfg(test)]
+mod rows;
 mod solver;
 mod solving;
 mod store;

@@ -1,0 +1,5 @@
+pub mod Status
+pub mod Words
+pub mod Form
+pub mod Run
+pub mod Reading
