@@ -4,14 +4,14 @@ pub mod Digits
 pub mod Elements
 pub mod Firsts
 pub mod Lengths
+pub mod Longest
 pub mod Marked
 pub mod Named
 pub mod Namely
+pub mod Next
 pub mod Opened
 pub mod Quoted
 pub mod Runs
 pub mod Spelled
 pub mod Steps
 pub mod Values
-pub mod Longest
-pub mod Next
