@@ -12,7 +12,7 @@ use Rattle.ddl_typed.specs.declared.expr.TAlternative.{TAlternative, out-TAltern
 use Rattle.ddl_typed.specs.declared.expr.TCase.{TCase, out-TCase}
 use Rattle.ddl_typed.specs.declared.expr.TField.{TField, out-TField}
 use Rattle.ddl_typed.specs.PartView.{class_view, class_layer}
-use Rattle.ddl_typed.specs.View.{OneAlternative, OneCase, OneField, view, form_view, item_view, content_view, bounds_view, argument_view, alternative_view, case_view, field_view, form_layer, item_layer, content_layer, bounds_layer, argument_layer, alternative_layer, case_layer, expr_layer, field_layer}
+use Rattle.ddl_typed.specs.View.{view, form_view, item_view, content_view, bounds_view, argument_view, alternative_view, case_view, field_view, form_layer, item_layer, content_layer, bounds_layer, argument_layer, alternative_layer, case_layer, expr_layer, field_layer}
 
 form_view_roll : (l : TForm-F TArgument TBounds TContent TForm TItem TAlternative TCase TExpr TField) → form_view (roll-TForm l) ≡ form_layer l
 unfolding view form_view item_view content_view bounds_view argument_view alternative_view case_view field_view

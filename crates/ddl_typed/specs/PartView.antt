@@ -1,5 +1,5 @@
 -- What the parts of forms that hold no forms stand for.
-use Rattle.std.specs.Prelude.{ℕ, List, [], ◌∷◌, Option}
+use Rattle.std.specs.Prelude.{ℕ, List, [], ◌∷◌}
 use Rattle.ddl_typed.specs.declared.operators.Comparison.{Comparison}
 use Rattle.ddl_typed.specs.declared.operators.Comparison.TheVariants as C
 use Rattle.ddl_typed.specs.declared.operators.Infix.{Infix}
