@@ -7,6 +7,7 @@ pub mod Layers
 pub mod Matching
 pub mod Meant
 pub mod Paired
+pub mod Pushing
 pub mod Rising
 pub mod Rows
 pub mod SharedLayers

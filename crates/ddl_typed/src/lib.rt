@@ -9,6 +9,8 @@ mod expr;
 mod laws;
 mod shared;
 mod step;
+#[cfg(test)]
+mod tests;
 
 pub use answer::{Answer, Close, Failure, Parse};
 pub use entry::denote;
