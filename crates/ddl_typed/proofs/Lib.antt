@@ -13,6 +13,7 @@ pub mod LoopRows
 pub mod Matching
 pub mod Meant
 pub mod Paired
+pub mod Pushing
 pub mod Rising
 pub mod RowForms
 pub mod Rows

@@ -11,6 +11,8 @@ mod laws;
 mod operators;
 mod shared;
 mod step;
+#[cfg(test)]
+mod tests;
 
 pub use answer::{Answer, Close, Failure, Parse};
 pub use class::TClass;
