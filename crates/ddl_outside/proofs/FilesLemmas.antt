@@ -9,9 +9,6 @@ use Rattle.ddl_outside.specs.Files.{FilesState, Contents, Later, TouchesOnly, Ha
 use Rattle.ddl_outside.specs.declared.files.Piece.{Piece}
 use Rattle.ddl_outside.specs.declared.files.Piece.TheVariants as piece_of
 
-pub Later-refl : (s : FilesState) → Later s s
-Later-refl s = record { held = refl; told = λ name n h. h; reach = λ name. omega arith; may_fail = refl; calm = λ h. refl; faults = omega arith; misses = omega arith }
-
 pub Later-trans : (a b c : FilesState) → Later a b → Later b c → Later a c
 Later-trans a b c p q = record {
   held = q.held ∙ p.held;

@@ -1,10 +1,9 @@
 -- Facts of files in memory.
 use Rattle.std.proofs.Common.{◌≡◌, ℕ, ◌+◌, List, [], ◌∷◌, length, refl, ap, ◌∙◌, Bool, true, false, arith}
-use Rattle.std.specs.Prelude.{Some, None, Option, IsSome, unwrap_or, ◌≤◌, take, drop, max, min, option_map, option_and_then, if◌then◌else◌, ◌==◌}
+use Rattle.std.specs.Prelude.{Some, None, Option, IsSome, unwrap_or, ◌≤◌, max, min, option_map, option_and_then, if◌then◌else◌, ◌==◌}
 use Rattle.std.specs.List.{list_any}
 use Rattle.std.specs.Str.{bytes_eq}
 use Rattle.std.proofs.Math.Path.{fun_ext}
-use Rattle.std.proofs.lemmas.List.{length-take-le}
 use Rattle.ddl_outside.specs.Files.{IsTold, Later, TouchesOnly}
 use Rattle.ddl_outside.specs.Named.{at_name, change_at}
 use Rattle.ddl_outside.specs.MemFiles.{Entry, MemState, told_entry, asked_entry, held_in, told_in, reach_in, reach_of, length_told, files_state, some_failing, fails}
@@ -126,21 +125,7 @@ fails-some m h = by_test (some_failing m.failing) refl where
   by_test true e = refl
   by_test false e = absurd (let f = none_fails m e in cc)
 
--- a file whose length was told is there, with that length
-pub told_there : (files : List (List ℕ × Entry)) (name : List ℕ) → IsSome (told_in files name) → at_name files name ≡ None → ⊥
-told_there files name told none = let h : IsSome (option_and_then length_told None) = rw none at told in cc
-
-pub told_is : (files : List (List ℕ × Entry)) (name : List ℕ) (f : Entry) → at_name files name ≡ Some f → IsSome (told_in files name) → unwrap_or (told_in files name) 0 ≡ length f.bytes
-told_is files name f is told = rw is (by_told (rw is at told)) where
-  by_told : IsSome (length_told f) → unwrap_or (length_told f) 0 ≡ length f.bytes
-  by_told = elim f.told as (λ t. IsSome (if t then Some (length f.bytes) else None) → unwrap_or (if t then Some (length f.bytes) else None) 0 ≡ length f.bytes) [ true ↦ λ h. refl | false ↦ λ h. absurd (cc) ]
-
--- the bytes that were copied from a file stand in it
-pub bytes_at : (files : List (List ℕ × Entry)) (name : List ℕ) (f : Entry) (at n : ℕ) (into : List ℕ) → at_name files name ≡ Some f → n ≤ length into → take n into ≡ take n (drop at f.bytes)
-    → take n into ≡ take (length (take n into)) (drop at (unwrap_or (held_in files name) []))
-bytes_at files name f at n into is within same = rw is (rw (length-take-le n into within) same)
-
--- where nothing was told or held anew, and the counts of one state are those of the other
+-- a file without a length is not there, also once its length was asked
 pub absent_told : (a b : MemState) (name : List ℕ) → b.files ≡ change_at told_entry a.files name → option_map (λ f. length f.bytes) (at_name a.files name) ≡ None → held_in b.files name ≡ None
 absent_told a b name files none = rw files (ap (λ (h : List ℕ → Option (List ℕ)). h name) (held_in-told a.files name) ∙ by_file (at_name a.files name) none) where
   by_file : (o : Option Entry) → option_map (λ f. length f.bytes) o ≡ None → option_map (λ f. f.bytes) o ≡ None

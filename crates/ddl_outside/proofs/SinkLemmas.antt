@@ -24,10 +24,6 @@ room-append : (o : Option ℕ) (xs ys : List ℕ) → option_map (λ n. n + leng
 room-append None xs ys = refl
 room-append (Some n) xs ys = ap Some (simp length-append (omega arith))
 
--- nothing was written
-pub Writes-refl : (a : SinkState) → Writes a a []
-Writes-refl a = record { wrote = sym (append_known-nil a.wrote); room = room-nil a.room; faults = omega arith }
-
 pub Writes-trans : (a b c : SinkState) (xs ys : List ℕ) → Writes a b xs → Writes b c ys → Writes a c (xs ++ ys)
 Writes-trans a b c xs ys p q = record {
   wrote = q.wrote ∙ (ap (λ o. append_known o ys) p.wrote ∙ append_known-append a.wrote xs ys);

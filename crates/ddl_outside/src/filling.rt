@@ -15,8 +15,8 @@ pub enum Filled {
     Failed,
 }
 
-/// Fills a buffer with a file's bytes at an offset, by as many reads as it takes. Where it is not filled the buffer
-/// may hold anything.
+/// Fills a buffer with a file's bytes at an offset, by as many reads as it takes. Where it is not
+/// filled the buffer may hold anything.
 pub fn fill<F: Files>(files: &mut F, name: &str, at: u64, into: &mut [u8]) -> Filled
     requires told { IsTold (F.state files.old) name.now }
     requires within { at + length into.old ≤ told_length (F.state files.old) name.now }
@@ -24,7 +24,8 @@ pub fn fill<F: Files>(files: &mut F, name: &str, at: u64, into: &mut [u8]) -> Fi
     ensures later { Later (F.state files.old) (F.state files.new) }
     ensures only { TouchesOnly name.now (F.state files.old) (F.state files.new) }
     ensures told { (F.state files.new).told ≡ (F.state files.old).told }
-    ensures reach { ReadsBelow name.now (at + length into.old) (F.state files.old) (F.state files.new) }
+    ensures reach { ReadsBelow name.now (at + length into.old)
+        (F.state files.old) (F.state files.new) }
     ensures answer { IsFill (F.state files.old) (F.state files.new) name.now at into.new result }
 {
     let mut done = 0usize;

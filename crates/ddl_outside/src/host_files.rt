@@ -1,4 +1,5 @@
-ghost use Rattle.std.specs.Prelude.{◌≡◌, ◌<◌, ◌≤◌, ◌∷◌, ◌++◌, [], map, length, option_map, IfOk, OnOk, OnErr};
+ghost use Rattle.std.specs.Prelude.{◌≡◌, ◌<◌, ◌≤◌, ◌∷◌, ◌++◌, [], map, length};
+ghost use Rattle.std.specs.Prelude.{IfOk, OnOk, OnErr};
 ghost use Rattle.ddl_outside.specs.Counts.{one_more};
 ghost use Rattle.ddl_outside.specs.Named.{at_name, change_at};
 ghost use Rattle.ddl_outside.specs.HostFiles.{named_seen, asked_seen};
@@ -28,7 +29,8 @@ fn seen_of(seen: &[Named<Seen>], name: &str) -> Option<Seen>
 
 /// Notes that so many bytes of the file of a name are asked for at an offset.
 fn ask(seen: &mut [Named<Seen>], name: &str, at: u64, count: usize)
-    ensures { map named_seen seen.new ≡ change_at (asked_seen at count) (map named_seen seen.old) name.now }
+    ensures { map named_seen seen.new
+        ≡ change_at (asked_seen at count) (map named_seen seen.old) name.now }
 {
     if let Some(found) = place(seen, name) {
         let file = &mut seen[found].thing;
@@ -62,7 +64,11 @@ impl<R: rt::Files + Drop> Model for HostFiles<R> {
 
     ghost Value = { HostState };
 
-    ghost view = { λ h. record { seen = map named_seen h.seen.items; faults = h.faults; misses = h.misses } };
+    ghost view = { λ h. record {
+      seen = map named_seen h.seen.items;
+      faults = h.faults;
+      misses = h.misses;
+    } };
 }
 
 impl<R: rt::Files + Drop> HostFiles<R> {
@@ -83,7 +89,9 @@ impl<R: rt::Files + Drop> HostFiles<R> {
 
     /// Keeps a length that is told from now on.
     fn keep(&mut self, name: &str, length: u64) -> Result<(), NoMemory>
-        ensures ok { OnOk result (self.new ≡ record self.old { seen = self.old.seen ++ (name.now, record { length = length; reach = 0 }) ∷ [] }) }
+        ensures ok { OnOk result (self.new ≡ record self.old {
+          seen = self.old.seen ++ (name.now, record { length = length; reach = 0 }) ∷ [];
+        }) }
         ensures err { OnErr result (self.new ≡ self.old) }
     {
         let name = String::from_str(self.alloc, name)?;
@@ -94,7 +102,9 @@ impl<R: rt::Files + Drop> HostFiles<R> {
 
     /// Notes that so many bytes of a file are asked for at an offset.
     fn asked(&mut self, name: &str, at: u64, count: usize)
-        ensures { self.new ≡ record self.old { seen = change_at (asked_seen at count) self.old.seen name.now } }
+        ensures { self.new ≡ record self.old {
+          seen = change_at (asked_seen at count) self.old.seen name.now;
+        } }
     {
         ask(&mut self.seen, name, at, count);
     }
@@ -118,14 +128,15 @@ impl<R: rt::Files + Drop> HostFiles<R> {
     ghost use Rattle.ddl_outside.specs.Files.{IsTold, IsPiece, Later};
     ghost use Rattle.ddl_outside.specs.HostFiles.{host_files_state};
 
-    /// Reads bytes of a file whose length was told. No byte past that length is asked for, and a read that finds none
-    /// before it is a failure.
+    /// Reads bytes of a file whose length was told. No byte past that length is asked for, and a
+    /// read that finds none before it is a failure.
     fn piece(&mut self, name: &str, at: u64, into: &mut [u8]) -> Piece
         requires told { IsTold (host_files_state self.old) name.now }
         requires room { 0 < length into.old }
         ensures seen { self.new.seen ≡ self.old.seen }
         ensures later { Later (host_files_state self.old) (host_files_state self.new) }
-        ensures answer { IsPiece (host_files_state self.old) (host_files_state self.new) name.now at into.new result }
+        ensures answer { IsPiece (host_files_state self.old) (host_files_state self.new)
+            name.now at into.new result }
     {
         let length = seen_of(&self.seen, name).unwrap().length;
         if at >= length {

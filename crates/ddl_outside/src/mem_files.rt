@@ -1,7 +1,9 @@
-ghost use Rattle.std.specs.Prelude.{◌≡◌, ◌-◌, ◌<◌, ◌≤◌, ◌∷◌, ◌++◌, [], length, map, take, drop, min, replicate, option_map, OnOk, OnErr};
+ghost use Rattle.std.specs.Prelude.{◌≡◌, ◌-◌, ◌<◌, ◌≤◌, ◌∷◌, ◌++◌, [], length, map, take, drop};
+ghost use Rattle.std.specs.Prelude.{min, replicate, option_map, OnOk, OnErr};
 ghost use Rattle.ddl_outside.specs.Counts.{one_more};
 ghost use Rattle.ddl_outside.specs.Named.{at_name, change_at};
-ghost use Rattle.ddl_outside.specs.MemFiles.{bytes_of, entry_of, named_entry, told_entry, asked_entry};
+ghost use Rattle.ddl_outside.specs.MemFiles.{bytes_of, entry_of, named_entry};
+ghost use Rattle.ddl_outside.specs.MemFiles.{told_entry, asked_entry};
 
 use crate::named::{Named, place};
 use crate::{Files, Length, Piece};
@@ -58,7 +60,8 @@ impl MemFile {
 
 /// The file of a name.
 fn file_of<'a>(files: &'a [Named<MemFile>], name: &str) -> Option<&'a MemFile>
-    ensures { option_map (λ f. entry_of f.now) result ≡ at_name (map named_entry files.now) name.now }
+    ensures { option_map (λ f. entry_of f.now) result
+        ≡ at_name (map named_entry files.now) name.now }
 {
     let at = place(files, name)?;
     Some(&files[at].thing)
@@ -66,8 +69,10 @@ fn file_of<'a>(files: &'a [Named<MemFile>], name: &str) -> Option<&'a MemFile>
 
 /// The length of the file of a name, which from now on is told.
 fn tell(files: &mut [Named<MemFile>], name: &str) -> Option<u64>
-    ensures length { result ≡ option_map (λ f. length f.bytes) (at_name (map named_entry files.old) name.now) }
-    ensures files { map named_entry files.new ≡ change_at told_entry (map named_entry files.old) name.now }
+    ensures length { result
+        ≡ option_map (λ f. length f.bytes) (at_name (map named_entry files.old) name.now) }
+    ensures files { map named_entry files.new
+        ≡ change_at told_entry (map named_entry files.old) name.now }
 {
     let at = place(files, name)?;
     let file = &mut files[at].thing;
@@ -77,7 +82,8 @@ fn tell(files: &mut [Named<MemFile>], name: &str) -> Option<u64>
 
 /// Notes that so many bytes of the file of a name are asked for at an offset.
 fn ask(files: &mut [Named<MemFile>], name: &str, at: u64, count: usize)
-    ensures { map named_entry files.new ≡ change_at (asked_entry at count) (map named_entry files.old) name.now }
+    ensures { map named_entry files.new
+        ≡ change_at (asked_entry at count) (map named_entry files.old) name.now }
 {
     if let Some(found) = place(files, name) {
         let file = &mut files[found].thing;
@@ -103,7 +109,13 @@ impl Model for MemFiles {
 
     ghost Value = { MemState };
 
-    ghost view = { λ m. record { files = map named_entry m.files.items; failing = m.failing.items; calls = m.calls; faults = m.faults; misses = m.misses } };
+    ghost view = { λ m. record {
+      files = map named_entry m.files.items;
+      failing = m.failing.items;
+      calls = m.calls;
+      faults = m.faults;
+      misses = m.misses;
+    } };
 }
 
 impl MemFiles {
@@ -123,7 +135,8 @@ impl MemFiles {
         }
     }
 
-    /// Adds a file, before the first call of a method of `Files`. The last one added under a name counts.
+    /// Adds a file, before the first call of a method of `Files`. The last one added under a name
+    /// counts.
     pub fn add(&mut self, name: &str, bytes: Vec<u8>) -> Result<(), NoMemory>
         requires { self.old.calls ≡ 0 }
         ensures ok { OnOk result (self.new ≡ added name.now bytes.items self.old) }
@@ -141,9 +154,11 @@ impl MemFiles {
         self.put(name, Content::Zeros(length))
     }
 
-    /// Makes the call of this number fail, counted from 1 over the calls of both methods of `Files`.
+    /// Makes the call of this number fail, counted from 1 over both methods of `Files`.
     pub fn fail_at(&mut self, call: u64) -> Result<(), NoMemory>
-        ensures ok { OnOk result (self.new ≡ record self.old { failing = self.old.failing ++ call ∷ [] }) }
+        ensures ok { OnOk result (self.new ≡ record self.old {
+          failing = self.old.failing ++ call ∷ [];
+        }) }
         ensures err { OnErr result (self.new ≡ self.old) }
     {
         self.failing.push(call)?;
@@ -167,15 +182,20 @@ impl MemFiles {
 
     /// The length of a file, which from now on is told.
     fn told(&mut self, name: &str) -> Option<u64>
-        ensures length { result ≡ option_map (λ f. length f.bytes) (at_name self.old.files name.now) }
-        ensures state { self.new ≡ record self.old { files = change_at told_entry self.old.files name.now } }
+        ensures length { result
+            ≡ option_map (λ f. length f.bytes) (at_name self.old.files name.now) }
+        ensures state { self.new ≡ record self.old {
+          files = change_at told_entry self.old.files name.now;
+        } }
     {
         tell(&mut self.files, name)
     }
 
     /// Notes that so many bytes of a file are asked for at an offset.
     fn asked(&mut self, name: &str, at: u64, count: usize)
-        ensures { self.new ≡ record self.old { files = change_at (asked_entry at count) self.old.files name.now } }
+        ensures { self.new ≡ record self.old {
+          files = change_at (asked_entry at count) self.old.files name.now;
+        } }
     {
         ask(&mut self.files, name, at, count);
     }
@@ -217,7 +237,8 @@ impl MemFiles {
         ensures files { self.new.files ≡ self.old.files }
         ensures failing { self.new.failing ≡ self.old.failing }
         ensures later { Later (files_state self.old) (files_state self.new) }
-        ensures answer { IsPiece (files_state self.old) (files_state self.new) name.now at into.new result }
+        ensures answer { IsPiece (files_state self.old) (files_state self.new)
+            name.now at into.new result }
     {
         if self.counts_failing() {
             self.fault();

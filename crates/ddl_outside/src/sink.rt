@@ -12,7 +12,7 @@ pub enum Took {
 
 /// Where bytes are written to, each behind those before.
 pub trait Sink {
-    /// What contracts know of the sink: what was written, how much more it takes, and what went wrong.
+    /// What contracts know of the sink: what was written, what it still takes, what went wrong.
     ghost state: { Self → SinkState };
 
     /// Writes some of the first bytes of a piece.

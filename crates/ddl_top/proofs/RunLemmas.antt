@@ -1,21 +1,18 @@
 -- Facts of the files that a run reads, and of what it may answer.
-use Rattle.std.proofs.Common.{◌≡◌, ℕ, ◌^◌, ◌<◌, ◌≤◌, List, length, take, min, ap, sym, ◌∙◌, subst, inl, inr, arith}
-use Rattle.std.specs.Prelude.{Some, None, Option, Result, Ok, Err, IfOk, IfSome, option_map, MatchOption, ◌+◌}
+use Rattle.std.proofs.Common.{◌≡◌, ℕ, ◌^◌, ◌≤◌, List, length, take, min, ap, sym, ◌∙◌, subst, inl, inr, arith}
+use Rattle.std.specs.Prelude.{Some, Result, Ok, Err, IfOk}
 use Rattle.std.proofs.lemmas.Option.{same_Some}
-use Rattle.std.proofs.lemmas.List.{take_min, length-take-le}
+use Rattle.std.proofs.lemmas.List.{take_min}
 use Rattle.ddl_base.specs.declared.memory.NoMemory.{NoMemory}
 use Rattle.ddl_outside.specs.Files.{FilesState, Later, HasLength, HasAt, IsFile, TouchesOnly}
 use Rattle.ddl_outside.specs.Filling.{ReadsBelow}
-use Rattle.ddl_outside.specs.Sink.{SinkState, WritesPart}
 use Rattle.ddl_outside.proofs.FilesLemmas.{file_begins, file_whole, IsFile-later, IsAbsent-earlier, IsFailed-earlier, Later-trans, TouchesOnly-trans}
-use Rattle.ddl_report.specs.declared.closing.Closing.TheVariants as closing_is
-use Rattle.ddl_top.specs.Form.{Specification, answer, closing_only}
-use Rattle.ddl_top.specs.Run.{IsAccepted, IsAnswer, IsDenoted, IsOfTheModule, IsRun, IsRunAnswer, NothingFailed, ReadsInOrder}
+use Rattle.ddl_top.specs.Form.{Specification, answer}
+use Rattle.ddl_top.specs.Run.{IsAccepted, IsDenoted, ReadsInOrder}
 use Rattle.ddl_top.specs.Reading.{IsForm, IsGot, IsInputAnswer, IsModule, IsStart}
-use Rattle.ddl_top.specs.Words.{file_of, line_name, run_words}
+use Rattle.ddl_top.specs.Words.{file_of, line_name}
 use Rattle.ddl_top.specs.declared.command.Answer.{Answer}
 use Rattle.ddl_top.specs.declared.status.Status.{Status}
-use Rattle.ddl_top.specs.declared.status.Status.TheVariants as status_is
 use Rattle.ddl_top.specs.declared.reading.Got.{Got}
 use Rattle.ddl_top.specs.declared.reading.Got.TheVariants as got_is
 use Rattle.ddl_top.specs.declared.reading.Module.{Module}
@@ -85,21 +82,6 @@ IfOk-text root input text start content old new (Ok a) accepted file is h =
     denoted_answer root input old new a.status a.lines.items (denoted root input text start content new a.status a.lines.items accepted file is h)
 IfOk-text root input text start content old new (Err e) accepted file is h = h
 
--- what an accepted module answers once its input's turn came is what the run answers, whose files were read before
-input_answer : (root input : List ℕ) (a b c : FilesState) (text : List ℕ) (status : Status) (lines : List (List ℕ)) → Later a b → Later b c → IsAccepted b (file_of root) text
-    → IsInputAnswer root input b c status lines → IsRunAnswer root input a c status lines
-input_answer root input a b c text status_is.Parses lines first second accepted h = h
-input_answer root input a b c text status_is.NoParse lines first second accepted h = h
-input_answer root input a b c text status_is.ReadFault lines first second accepted h = (IsFailed-earlier a b c first h.0, h.1)
-input_answer root input a b c text status_is.Missing lines first second accepted h =
-    inr (text, IsAccepted-later b c (file_of root) text second accepted, IsAbsent-earlier a b c input first h.0, h.1)
-input_answer root input a b c text _ lines first second accepted h = absurd h
-
-pub IfOk-input : (root input : List ℕ) (a b c : FilesState) (text : List ℕ) (r : Result Answer NoMemory) → Later a b → Later b c → IsAccepted b (file_of root) text
-    → IfOk r (λ x. IsInputAnswer root input b c x.status x.lines.items) → IfOk r (λ x. IsRunAnswer root input a c x.status x.lines.items)
-IfOk-input root input a b c text (Ok x) first second accepted h = input_answer root input a b c text x.status x.lines.items first second accepted h
-IfOk-input root input a b c text (Err e) first second accepted h = h
-
 -- the module was read, and then the input
 pub reads_in_order : (root input : List ℕ) (a b c : FilesState) (text : List ℕ) → Later b c → TouchesOnly (file_of root) a b → TouchesOnly input b c → ReadsBelow input (length text) b c
     → IsAccepted b (file_of root) text → ReadsInOrder root input a c
@@ -112,36 +94,6 @@ reads_in_order root input a b c text later first second below accepted = inr (
     below = λ h. let same : b.reach input ≡ a.reach input = first.reach input h in omega (arith, below);
   },
 )
-
--- a first part was written, which comes only where the room is too small for the whole
-pub part_room : (out out' : SinkState) (bytes : List ℕ) → WritesPart out out' bytes → IfSome out.room (λ n. n < length bytes)
-part_room out out' bytes part = rw part.2.room (by_room out'.room part.3.1) where
-  by_room : (o : Option ℕ) → IfSome o (λ n. n ≡ 0) → IfSome (option_map (λ n. n + length (take part.0 bytes)) o) (λ n. n < length bytes)
-  by_room None none = tt
-  by_room (Some n) none = let k : part.0 < length bytes = part.1 in let taken = length-take-le part.0 bytes (omega arith) in omega (arith, none, taken, k)
-
--- a status that neither faulty words nor a run is answered
-no_answer : (words : List (List ℕ)) (old new : FilesState) (status : Status) (lines : List (List ℕ)) → IsAnswer words old new status lines
-    → (status ≡ status_is.Words → ⊥) → ((root input : List ℕ) → IsRunAnswer root input old new status lines → ⊥) → ⊥
-no_answer words old new status lines answer no_words no_run = by_words (run_words words) answer where
-  by_words : (o : Option (List ℕ × List ℕ)) → MatchOption o ((status ≡ status_is.Words) × (new ≡ old) × (lines ≡ closing_only closing_is.Words)) (λ w. IsRunAnswer w.0 w.1 old new status lines) → ⊥
-  by_words None h = no_words h.0
-  by_words (Some w) h = no_run w.0 w.1 h
-
--- where nothing failed the answer is the module's
-pub own_answer : (words : List (List ℕ)) (old new : FilesState) (out out' : SinkState) (status : Status) → IsRun words old new out out' status → NothingFailed old new out out' → IsOfTheModule status
-own_answer words old new out out' status_is.Parses run fine = tt
-own_answer words old new out out' status_is.NoParse run fine = tt
-own_answer words old new out out' status_is.Words run fine = tt
-own_answer words old new out out' status_is.Refused run fine = tt
-own_answer words old new out out' status_is.NoMemory run fine = tt
-own_answer words old new out out' status_is.WriteFault run fine = fine.writes run.3.3.0
-own_answer words old new out out' status_is.ReadFault run fine = no_answer words old new status_is.ReadFault run.0 run.1 (λ e. cc) (λ root input h. fine.reads h.0.0)
-own_answer words old new out out' status_is.Missing run fine =
-    no_answer words old new status_is.Missing run.0 run.1 (λ e. cc) (λ root input h. elim h [ inl missing ↦ fine.files missing.0.0 | inr missing ↦ fine.files missing.2.0 ])
-own_answer words old new out out' status_is.Fault run fine = no_answer words old new status_is.Fault run.0 run.1 (λ e. cc) (λ root input h. h)
-own_answer words old new out out' status_is.Spent run fine = no_answer words old new status_is.Spent run.0 run.1 (λ e. cc) (λ root input h. h)
-own_answer words old new out out' status_is.TooLarge run fine = no_answer words old new status_is.TooLarge run.0 run.1 (λ e. cc) (λ root input h. h)
 
 pub ruleset reading_lemmas = (Later-trans, TouchesOnly-trans)
 

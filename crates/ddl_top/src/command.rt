@@ -3,7 +3,8 @@ ghost use Rattle.ddl_outside.specs.Files.{Later, TouchesOnly};
 ghost use Rattle.ddl_outside.specs.Filling.{ReadsBelow};
 ghost use Rattle.ddl_report.specs.Closing.{HasItsText};
 ghost use Rattle.ddl_top.specs.Form.{answer, closing_only, fail_lines, parse_lines};
-ghost use Rattle.ddl_top.specs.Run.{IsAccepted, IsAnswer, IsOfTheModule, IsRun, IsRunAnswer, NothingFailed, ReadsInOrder, TouchesInOrder};
+ghost use Rattle.ddl_top.specs.Run.{IsAccepted, IsAnswer, IsOfTheModule, IsRun, IsRunAnswer};
+ghost use Rattle.ddl_top.specs.Run.{NothingFailed, ReadsInOrder, TouchesInOrder};
 ghost use Rattle.ddl_top.specs.Reading.{IsInputAnswer};
 ghost use Rattle.ddl_top.specs.Words.{file_of, line_name};
 
@@ -41,7 +42,8 @@ fn closing_answer(alloc: Global, status: Status, closing: &Closing) -> Result<An
 
 /// The answer of a file that is not there.
 fn missing_answer(alloc: Global, name: &str) -> Result<Answer, NoMemory>
-    ensures { IfOk result (λ a. (a.status ≡ Status.Missing) × (a.lines.items ≡ closing_only (Closing.Missing name.now))) }
+    ensures { IfOk result (λ a. (a.status ≡ Status.Missing)
+        × (a.lines.items ≡ closing_only (Closing.Missing name.now))) }
 {
     let name = Bytes::of(alloc, name.as_bytes())?;
     closing_answer(alloc, Status::Missing, &Closing::Missing { name })
@@ -49,7 +51,8 @@ fn missing_answer(alloc: Global, name: &str) -> Result<Answer, NoMemory>
 
 /// The answer of a text that the input begins with.
 fn parse_answer(alloc: Global, text: &[u8]) -> Result<Answer, NoMemory>
-    ensures { IfOk result (λ a. (a.status ≡ Status.Parses) × (a.lines.items ≡ parse_lines text.now)) }
+    ensures { IfOk result (λ a. (a.status ≡ Status.Parses)
+        × (a.lines.items ≡ parse_lines text.now)) }
 {
     let mut lines = Vec::new(alloc);
     let end = text.len() as u64;
@@ -65,7 +68,8 @@ fn parse_answer(alloc: Global, text: &[u8]) -> Result<Answer, NoMemory>
 /// The answer of a text that differs from the input at an offset.
 fn fail_answer(alloc: Global, name: &[u8], text: &[u8], at: usize) -> Result<Answer, NoMemory>
     requires { length text.now ≤ 2 ^ 16 }
-    ensures { IfOk result (λ a. (a.status ≡ Status.NoParse) × (a.lines.items ≡ fail_lines name.now text.now at)) }
+    ensures { IfOk result (λ a. (a.status ≡ Status.NoParse)
+        × (a.lines.items ≡ fail_lines name.now text.now at)) }
 {
     let closing = Closing::Fail {
         why: Why::Match,
@@ -104,7 +108,8 @@ fn matched_answer<F: Files>(
     ensures later { Later (F.state files.old) (F.state files.new) }
     ensures only { TouchesOnly input.now (F.state files.old) (F.state files.new) }
     ensures reach { ReadsBelow input.now (length text.now) (F.state files.old) (F.state files.new) }
-    ensures answer { IfOk result (λ a. IsInputAnswer root.now input.now (F.state files.old) (F.state files.new) a.status a.lines.items) }
+    ensures answer { IfOk result (λ a. IsInputAnswer root.now input.now
+        (F.state files.old) (F.state files.new) a.status a.lines.items) }
 {
     match start_of(alloc, files, input, text.len())? {
         Got::Bytes(start) => text_answer(alloc, line_name(root.as_bytes()), text, &start),
@@ -125,7 +130,8 @@ fn file_answer<F: Files>(
     requires { file.now ≡ file_of root.now }
     ensures later { Later (F.state files.old) (F.state files.new) }
     ensures order { ReadsInOrder root.now input.now (F.state files.old) (F.state files.new) }
-    ensures answer { IfOk result (λ a. IsRunAnswer root.now input.now (F.state files.old) (F.state files.new) a.status a.lines.items) }
+    ensures answer { IfOk result (λ a. IsRunAnswer root.now input.now
+        (F.state files.old) (F.state files.new) a.status a.lines.items) }
 {
     match read_module(alloc, files, file)? {
         Module::Text(text) => matched_answer(alloc, files, root, input, &text),
@@ -144,7 +150,8 @@ fn run_answer<F: Files>(
 ) -> Result<Answer, NoMemory>
     ensures later { Later (F.state files.old) (F.state files.new) }
     ensures order { ReadsInOrder root.now input.now (F.state files.old) (F.state files.new) }
-    ensures answer { IfOk result (λ a. IsRunAnswer root.now input.now (F.state files.old) (F.state files.new) a.status a.lines.items) }
+    ensures answer { IfOk result (λ a. IsRunAnswer root.now input.now
+        (F.state files.old) (F.state files.new) a.status a.lines.items) }
 {
     let file = module_file(alloc, root)?;
     file_answer(alloc, files, root, input, file.as_str())
@@ -153,8 +160,10 @@ fn run_answer<F: Files>(
 /// The answer to the words of a command line.
 fn answer_to<F: Files>(alloc: Global, words: &[String], files: &mut F) -> Result<Answer, NoMemory>
     ensures later { Later (F.state files.old) (F.state files.new) }
-    ensures order { TouchesInOrder (map string_bytes words.now) (F.state files.old) (F.state files.new) }
-    ensures answer { IfOk result (λ a. IsAnswer (map string_bytes words.now) (F.state files.old) (F.state files.new) a.status a.lines.items) }
+    ensures order { TouchesInOrder (map string_bytes words.now)
+        (F.state files.old) (F.state files.new) }
+    ensures answer { IfOk result (λ a. IsAnswer (map string_bytes words.now)
+        (F.state files.old) (F.state files.new) a.status a.lines.items) }
 {
     match run_words(words) {
         Some(words) => run_answer(alloc, files, words.root, words.input),
@@ -162,11 +171,11 @@ fn answer_to<F: Files>(alloc: Global, words: &[String], files: &mut F) -> Result
     }
 }
 
-/// Does what the words of the command line say, which are its arguments without the program's name: reads files, writes
-/// lines, and says how that ended.
+/// Does what the words of the command line say, which are its arguments without the program's
+/// name: reads files, writes lines, and says how that ended.
 ///
-/// Accepted is `run MODULE INPUT`, which matches the file INPUT against the one specification that the file MODULE.ddl
-/// holds, and writes a line for each parse and one for the end.
+/// Accepted is `run MODULE INPUT`, which matches the file INPUT against the one specification that
+/// the file MODULE.ddl holds, and writes a line for each parse and one for the end.
 pub fn run<F: Files, S: Sink>(
     alloc: Global,
     words: &Vec<String>,
@@ -174,13 +183,17 @@ pub fn run<F: Files, S: Sink>(
     out: &mut S,
 ) -> Status
     // What is answered, why, and exactly what is written.
-    ensures answer { IsRun (map string_bytes words.now.items) (F.state files.old) (F.state files.new) (S.state out.old) (S.state out.new) result }
+    ensures answer { IsRun (map string_bytes words.now.items)
+        (F.state files.old) (F.state files.new) (S.state out.old) (S.state out.new) result }
 
-    // Faulty words touch no file, the input's turn comes once the module is accepted, and no more of it is read than that looks at.
-    ensures order { TouchesInOrder (map string_bytes words.now.items) (F.state files.old) (F.state files.new) }
+    // Faulty words touch no file. The input is not touched before the module is accepted, and no
+    // byte of it is read that the module does not look at.
+    ensures order { TouchesInOrder (map string_bytes words.now.items)
+        (F.state files.old) (F.state files.new) }
 
     // Where nothing fails outside, the answer is the module's own, or want of memory.
-    ensures complete { NothingFailed (F.state files.old) (F.state files.new) (S.state out.old) (S.state out.new) → IsOfTheModule result }
+    ensures complete { NothingFailed (F.state files.old) (F.state files.new)
+        (S.state out.old) (S.state out.new) → IsOfTheModule result }
 
     // What is held and what was told stays, and no count falls. Files that may not fail did not.
     ensures files { Later (F.state files.old) (F.state files.new) }

@@ -13,7 +13,8 @@ pub(crate) struct RunWords<'a> {
 
 /// The words of a command line, where they are `run MODULE INPUT`.
 pub(crate) fn run_words(words: &[String]) -> Option<RunWords<'_>>
-    ensures { option_map (λ w. (w.root.now, w.input.now)) result ≡ run_words (map string_bytes words.now) }
+    ensures { option_map (λ w. (w.root.now, w.input.now)) result
+        ≡ run_words (map string_bytes words.now) }
 {
     if words.len() == 3 && words[0].as_str() == "run" {
         Some(RunWords {

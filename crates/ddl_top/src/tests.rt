@@ -117,7 +117,8 @@ fn words(alloc: Global, line: &str) -> Result<Vec<String>, Fail> {
     Ok(words)
 }
 
-/// The module as `A.ddl` and `dir/A.ddl`, and the input as `in`; the call of this number fails, and with 0 none.
+/// The module as `A.ddl` and `dir/A.ddl`, and the input as `in`; the call of this number fails,
+/// and with 0 none.
 fn files(alloc: Global, module: &[u8], input: &[u8], failing: u64) -> Result<MemFiles, Fail> {
     let mut files = MemFiles::new(alloc);
     files.add("A.ddl", module.to_vec(alloc)?)?;
@@ -148,7 +149,8 @@ fn rows(rt: HostRuntime) -> Result<(), Fail> {
     Ok(())
 }
 
-/// Each of the calls of the files fails in turn: the module's length, its bytes, the input's length, its bytes.
+/// Each of the calls of the files fails in turn: the module's length, its bytes, the input's
+/// length, its bytes.
 #[test]
 fn a_failed_read_stops(rt: HostRuntime) -> Result<(), Fail> {
     let alloc = rt.alloc();
@@ -167,7 +169,8 @@ fn a_failed_read_stops(rt: HostRuntime) -> Result<(), Fail> {
     Ok(())
 }
 
-/// A sink of each room below the whole takes what fits, and then its write fails; so does one whose call fails.
+/// A sink of each room below the whole takes what fits, and then its write fails; so does one
+/// whose call fails.
 #[test]
 fn a_failed_write_leaves_a_first_part(rt: HostRuntime) -> Result<(), Fail> {
     let alloc = rt.alloc();
@@ -201,7 +204,8 @@ fn long_module(alloc: Global, length: usize) -> Result<Vec<u8>, Fail> {
     Ok(module)
 }
 
-/// A module of 2^16 bytes is read, one of a byte more is not; of an input without end only what is needed is.
+/// A module of 2^16 bytes is read, one of a byte more is not; of a huge input only what is needed
+/// is.
 #[test]
 fn sizes(rt: HostRuntime) -> Result<(), Fail> {
     let alloc = rt.alloc();
