@@ -11,3 +11,14 @@ pub mod ReadsExpr
 pub mod ReadsDecl
 pub mod ReadsModule
 mod Examples
+pub mod Before
+pub mod Fits
+pub mod FineTypes
+pub mod FineExprs
+pub mod FineParts
+pub mod FineLists
+pub mod FineDecls
+pub mod Fine
+pub mod Complete
+pub mod CompleteStates
+pub mod Exact

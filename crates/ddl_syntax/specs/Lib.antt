@@ -6,3 +6,4 @@ pub mod StepParts
 pub mod StepLists
 pub mod StepDecl
 pub mod Step
+pub mod Answers
