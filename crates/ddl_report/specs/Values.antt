@@ -1,5 +1,5 @@
 -- The JSON of printable values.
-use Rattle.std.specs.Prelude.{ℕ, List, [], ◌∷◌, Bool, if◌then◌else◌, codes}
+use Rattle.std.specs.Prelude.{ℕ, List, [], ◌∷◌, ◌++◌, Bool, if◌then◌else◌, codes}
 use Rattle.serde_json.specs.Data.{Data, null, boolean, string, array, object, Items, no_items, item, Members, no_members, member, put}
 use Rattle.ddl_types.specs.Plain as p
 use Rattle.ddl_report.specs.Names.{shown}
@@ -17,11 +17,14 @@ abbrev pub stream_data : Bool → ℕ → ℕ → Data
 stream_data in_input from to =
     only (codes "$stream") (object (member (codes "from") (natural from) (member (codes "in") (place_data in_input) (member (codes "to") (natural to) no_members))))
 
--- the entries of a map, each a list of its key and its value
+-- an entry of a map, as a list of its key and its value
+abbrev pub entry_data : Data → Data → Data
+entry_data key value = array (item key (item value no_items))
+
 abbrev pub entries_data : Items → Items → Items
 entries_data no_items values = no_items
 entries_data (item k keys) no_items = no_items
-entries_data (item k keys) (item v values) = item (array (item k (item v no_items))) (entries_data keys values)
+entries_data (item k keys) (item v values) = item (entry_data k v) (entries_data keys values)
 
 abbrev mutual
   pub plain_data : p.Printable → Data
@@ -31,7 +34,7 @@ abbrev mutual
   plain_data p.nothing = null
   plain_data (p.just v) = only (codes "$just") (plain_data v)
   plain_data (p.fields names vs) = object (fields_data vs names no_members)
-  plain_data (p.union tag v) = only (36 ∷ shown tag) (plain_data v)
+  plain_data (p.union tag v) = only (codes "$" ++ shown tag) (plain_data v)
   plain_data (p.array vs) = array (plains_data vs)
   plain_data (p.entries ks vs) = only (codes "$map") (array (entries_data (plains_data ks) (plains_data vs)))
   plain_data (p.stream in_input from to) = stream_data in_input from to

@@ -6,6 +6,10 @@ mod line;
 mod names;
 mod numbers;
 mod object;
+mod values;
 
 pub use closing::{Closing, closing_line};
-pub use line::line_of_bytes;
+pub use line::{line_of_bytes, line_of_parse};
+
+#[cfg(test)]
+mod tests;

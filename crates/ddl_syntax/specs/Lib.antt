@@ -1,9 +1,9 @@
-pub mod Frames
-pub mod StepType
-pub mod StepClass
-pub mod StepExpr
-pub mod StepParts
-pub mod StepLists
-pub mod StepDecl
-pub mod Step
 pub mod Answers
+pub mod Frames
+pub mod Step
+pub mod StepClass
+pub mod StepDecl
+pub mod StepExpr
+pub mod StepLists
+pub mod StepParts
+pub mod StepType

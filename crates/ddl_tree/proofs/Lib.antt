@@ -1,2 +1,2 @@
-pub mod Layers
 mod Examples
+pub mod Layers
