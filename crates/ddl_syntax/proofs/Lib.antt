@@ -1,5 +1,16 @@
-mod Examples
+pub mod Before
 pub mod Classes
+pub mod Complete
+pub mod CompleteStates
+pub mod Exact
+mod Examples
+pub mod Fine
+pub mod FineDecls
+pub mod FineExprs
+pub mod FineLists
+pub mod FineParts
+pub mod FineTypes
+pub mod Fits
 pub mod Levels
 pub mod ReadsBindings
 pub mod ReadsCalls

@@ -1,5 +1,5 @@
 -- One token, and all of them.
-use Rattle.std.specs.Prelude.{nat_le, nat_eq, List, [], ◌∷◌, Option, Some, None, option_and_then, if◌then◌else◌}
+use Rattle.std.specs.Prelude.{◌≡◌, nat_le, nat_eq, List, [], ◌∷◌, Option, Some, None, option_and_then, if◌then◌else◌}
 use Rattle.ddl_base.specs.declared.span.Span.{Span}
 use Rattle.ddl_token.specs.declared.token.Tok.{Tok}
 use Rattle.ddl_token.specs.declared.token.Tok.TheVariants as k
@@ -189,3 +189,22 @@ begun = (frame.in_module (record { imports = []; decls = [] }) 0 ∷ [], frame.a
 
 abbrev pub parsed : List Seen → Option mo.Module
 parsed xs = run xs begun
+
+-- the state after these tokens, where each goes on with those before it
+abbrev pub reach : List Seen → State → Option State
+reach [] z = Some z
+reach (x ∷ xs) z = option_and_then (reach xs) (step_at z.1 z.0 x.kind x.at)
+
+-- what tokens are, and where they stand
+abbrev pub kinds : List Seen → List Tok
+kinds [] = []
+kinds (x ∷ xs) = x.kind ∷ kinds xs
+
+abbrev pub places : List Seen → List Span
+places [] = []
+places (x ∷ xs) = x.at ∷ places xs
+
+-- no token is taken here, or the tokens end too early
+abbrev pub IsStuck : State → List Seen → Type 0
+IsStuck z [] = finish z.1 z.0 ≡ None
+IsStuck z (x ∷ xs) = step_at z.1 z.0 x.kind x.at ≡ None

@@ -3,4 +3,4 @@
 
 mod law;
 
-pub use law::prints_tell_modules_apart;
+pub use law::{machine_reads_modules_exactly, prints_tell_modules_apart};
