@@ -1,9 +1,9 @@
+mod Examples
 pub mod Before
 pub mod Classes
 pub mod Complete
 pub mod CompleteStates
 pub mod Exact
-mod Examples
 pub mod Fine
 pub mod FineDecls
 pub mod FineExprs
