@@ -1,11 +1,12 @@
 -- What is said of each part of solving.
-use Rattle.std.specs.Prelude.{◌≡◌, ℕ, List, [], ◌∷◌, ◌++◌, length, ◌⊎◌, ◌||◌, Option, Some, None, if◌then◌else◌, Bool, true, false, Result, Ok, Err}
+use Rattle.std.specs.Prelude.{◌≡◌, ◌≤◌, ℕ, List, [], ◌∷◌, ◌++◌, length, ◌⊎◌, ◌||◌, Option, Some, None, if◌then◌else◌, Bool, true, false, Result, Ok, Err}
 use Rattle.ddl_base.specs.declared.memory.NoMemory.{NoMemory}
 use Rattle.ddl_types.specs.Types.{Ty, Ty.var, Ty.con, Sub, on, Below}
 use Rattle.ddl_unify.specs.declared.store.Bound.{Bound}
 use Rattle.ddl_unify.specs.View.{bounds}
 use Rattle.ddl_unify.specs.Occurs.{has, has_all}
 use Rattle.ddl_unify.specs.Heads.{IsCon}
+use Rattle.ddl_unify.specs.Measures.{weighed, cost}
 use Rattle.ddl_unify.specs.Equations.{Equation, equal, Solves, EachBelow}
 use Rattle.ddl_unify.specs.Bindings.{Agrees, solution}
 use Rattle.ddl_unify.specs.Kept.{Kept, Solved, ApartUnder}
@@ -72,3 +73,8 @@ pub record Back (n : ℕ) (place place2 : List ℕ) (a b : List Bound) : Type 0 
   pub long : length place2 ≡ length place
   pub shorter : length b ≡ n
   pub extends : Extends b a
+
+-- a type that is read as another, and weighs no more
+pub record Followed (xs : List Bound) (t u : Ty) : Type 0 where
+  pub same : on u (solution (bounds xs)) ≡ on t (solution (bounds xs))
+  pub lighter : weighed u (cost (bounds xs)) ≤ weighed t (cost (bounds xs))
