@@ -3,14 +3,18 @@
 
 mod cond;
 mod fault;
+mod laws;
 mod num;
+mod plain;
 mod scheme;
 mod substitution;
 mod ty;
 
 pub use cond::Cond;
 pub use fault::Fault;
+pub use laws::keeping_law;
 pub use num::{Num, NumType};
+pub use plain::Plain;
 pub use scheme::{Instance, Scheme};
 pub use substitution::{apply, apply_cond, instance};
 pub use ty::Ty;

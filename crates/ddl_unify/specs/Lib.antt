@@ -1,10 +1,10 @@
-pub mod Occurs
-pub mod Equations
 pub mod Bindings
-pub mod Measures
+pub mod Equations
 pub mod Heads
-pub mod View
 pub mod Kept
-pub mod Solving
+pub mod Measures
+pub mod Occurs
 pub mod Refused
+pub mod Solving
 pub mod State
+pub mod View

@@ -1,0 +1,19 @@
+# Sourced by the scripts beside it: builds ddl_bench, names it in $program, and gives a folder that goes at the end.
+top=$(CDPATH='' cd -- "$(dirname -- "$0")/.." && pwd) || exit 1
+program=$top/crates/ddl_bench/out/ddl_bench
+(cd "$top/crates/ddl_bench" && rt run >/dev/null 2>&1)
+[ -x "$program" ] || { echo "ddl_bench does not build: try rt check in crates/ddl_bench" >&2; exit 1; }
+folder=$(mktemp -d) || exit 1
+trap 'rm -rf "$folder"' EXIT
+
+# The milliseconds that a command takes, the least of five runs; its output goes to a file.
+milliseconds() {
+    least=
+    for _ in 1 2 3 4 5; do
+        begin=$(date +%s%N)
+        "$@" >"$folder/output" || exit 1
+        took=$((($(date +%s%N) - begin) / 1000000))
+        if [ -z "$least" ] || [ "$took" -lt "$least" ]; then least=$took; fi
+    done
+    echo "$least"
+}

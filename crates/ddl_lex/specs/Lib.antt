@@ -1,0 +1,13 @@
+pub mod Brackets
+pub mod Comments
+pub mod Forms
+pub mod Gives
+pub mod Layout
+pub mod Letters
+pub mod Literals
+pub mod Marks
+pub mod Names
+pub mod Numbers
+pub mod Pieces
+pub mod Places
+pub mod Tokens

@@ -1,0 +1,10 @@
+pub mod Counts
+pub mod Files
+pub mod Filling
+pub mod HostFiles
+pub mod MemFiles
+pub mod MemSink
+pub mod Named
+pub mod Sink
+pub mod Told
+pub mod Writing

@@ -1,0 +1,5 @@
+pub mod Closing
+pub mod Lines
+pub mod Names
+pub mod Numbers
+pub mod Values

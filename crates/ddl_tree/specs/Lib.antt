@@ -1,0 +1,14 @@
+pub mod ClassTree
+pub mod Depth
+pub mod ExprTree
+pub mod Grammar
+pub mod GrammarModule
+pub mod ModuleTree
+pub mod PatternTree
+pub mod Print
+pub mod PrintModule
+pub mod Spans
+pub mod SpansModule
+pub mod TypeTree
+pub mod View
+pub mod ViewModule
