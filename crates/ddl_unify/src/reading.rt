@@ -36,7 +36,8 @@ pub fn bound_to<'a>(place: &[u32], trail: &'a [Bound], v: u32) -> Option<&'a Ty>
 #[tactic(auto, using(ddl_types::proofs::TyLayers::layers, crate::proofs::ReadingLemmas::follows))]
 pub fn followed<'a>(place: &[u32], trail: &'a [Bound], t: &'a Ty) -> &'a Ty
     requires { Kept place.now trail.now }
-    ensures { Followed trail.now (ty_view t.now) (ty_view result.now) }
+    ensures followed { Followed trail.now (ty_view t.now) (ty_view result.now) }
+    ensures last { MatchOption (is_var (ty_view result.now)) (Unit {0}) (λ v. Unbound v (bounds trail.now)) }
 {
     let mut at = t;
     while let Ty::Var(v) = at {
