@@ -1,6 +1,6 @@
 -- What a call says of a slice of the bindings, said of the list that holds them.
-use Rattle.std.proofs.Common.{◌≡◌, ℕ, ◌<◌, List, refl, sym, ap, ◌∙◌, Option, Some, None, Bool, true, length, subst}
-use Rattle.ddl_types.specs.Types.{Ty, Ty.var, Sub, on, Below}
+use Rattle.std.proofs.Common.{◌≡◌, ℕ, ◌<◌, List, refl, sym, ◌∙◌, Option, Some, None, Bool, true, length, subst}
+use Rattle.ddl_types.specs.Types.{Ty, Ty.var, on, Below}
 use Rattle.ddl_unify.specs.declared.store.Bound.{Bound}
 use Rattle.ddl_unify.specs.View.{bounds}
 use Rattle.ddl_unify.specs.Occurs.{has, is_var}

@@ -1,16 +1,15 @@
 -- What solving one more equation says of the list.
-use Rattle.std.proofs.Common.{◌≡◌, ℕ, ◌+◌, ◌≤◌, List, [], ◌∷◌, ◌++◌, refl, sym, ap, ◌∙◌, arith, zero, suc, length, get_or, length-append, subst}
+use Rattle.std.proofs.Common.{◌≡◌, ℕ, ◌≤◌, List, [], ◌∷◌, ◌++◌, refl, sym, ap, ◌∙◌, arith, zero, suc, length, get_or, length-append, subst}
 use Rattle.ddl_types.specs.Types.{Ty, Ty.var, Ty.con, Tys, Tys.none, Tys.more, Sub, on, Below, BelowAll}
 use Rattle.ddl_types.specs.TyView.{ty_view}
 use Rattle.ddl_unify.specs.declared.store.Bound.{Bound}
 use Rattle.ddl_unify.specs.declared.store.Pair.{Pair}
 use Rattle.ddl_unify.specs.View.{bounds, equations, pair_view}
-use Rattle.ddl_unify.specs.Equations.{Equation, equal, Solves, MostGeneral, Unsolvable, Endless}
+use Rattle.ddl_unify.specs.Equations.{Equation, equal, Solves, MostGeneral, Unsolvable}
 use Rattle.ddl_unify.specs.Bindings.{Binding, solution, Agrees, ToBelow}
 use Rattle.ddl_unify.specs.Kept.{Kept, Solved, Holding, ApartUnder}
 use Rattle.ddl_unify.specs.Solving.{Fine, Unchanged}
-use Rattle.ddl_unify.specs.Refused.{AreRead}
-use Rattle.ddl_unify.proofs.ReadingLemmas.{read_then, most_general}
+use Rattle.ddl_unify.proofs.ReadingLemmas.{most_general}
 use Rattle.ddl_unify.proofs.Steps.{solves_append, solves_front, solves_back}
 use Rattle.ddl_unify.proofs.Parts.{equations_last}
 

@@ -1,17 +1,15 @@
 -- Steps of solving, one after another.
-use Rattle.std.proofs.Common.{◌≡◌, ℕ, ◌+◌, ◌<◌, List, [], ◌∷◌, ◌++◌, refl, sym, ap, ◌∙◌, arith, length, true, false, Bool, subst}
-use Rattle.ddl_types.specs.Types.{Ty, Sub, on, Below}
+use Rattle.std.proofs.Common.{◌≡◌, ℕ, ◌<◌, List, [], ◌∷◌, ◌++◌, sym, ap, arith, length, true, false, Bool, subst}
+use Rattle.ddl_types.specs.Types.{Ty, Sub, Below}
 use Rattle.ddl_unify.specs.declared.store.Bound.{Bound}
-use Rattle.ddl_unify.specs.declared.store.Pair.{Pair}
-use Rattle.ddl_unify.specs.View.{bounds, equations, pair_view}
+use Rattle.ddl_unify.specs.View.{bounds}
 use Rattle.ddl_unify.specs.Equations.{Equation, equal, Solves, EachBelow}
-use Rattle.ddl_unify.specs.Bindings.{Binding, solution, Agrees}
+use Rattle.ddl_unify.specs.Bindings.{Agrees}
 use Rattle.ddl_unify.specs.Measures.{weight, steps, zeros}
-use Rattle.ddl_unify.specs.Kept.{Kept, Step, StepIs, Split, SplitIs, Solved, ApartUnder}
+use Rattle.ddl_unify.specs.Kept.{Kept, Step, StepIs, SplitIs, Solved, ApartUnder}
 use Rattle.ddl_unify.specs.Solving.{Fine, Going, Opened}
-use Rattle.ddl_unify.proofs.ReadingLemmas.{read_then}
 use Rattle.ddl_unify.proofs.Steps.{steps_less, solves_append, solves_front, solves_back}
-use Rattle.ddl_unify.proofs.Parts.{weight_append, below_front, below_back, equations_last}
+use Rattle.ddl_unify.proofs.Parts.{weight_append}
 use Rattle.ddl_unify.proofs.Keeping.{fine_same, fine_then, step_like, step_flip}
 
 -- types that are no variables, taken apart, are a step

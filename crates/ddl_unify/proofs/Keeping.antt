@@ -1,5 +1,5 @@
 -- One more binding.
-use Rattle.std.proofs.Common.{◌≡◌, ℕ, ◌+◌, ◌-◌, ◌*◌, ◌≤◌, ◌<◌, List, [], ◌∷◌, ◌++◌, ◌==◌, ◌≢◌, if◌then◌else◌, refl, sym, ap, ◌∙◌, arith, zero, suc, get_or, set, length, true, false, ◌||◌, Bool, inl, inr, append_assoc, length-append, ne_eqb, subst, Some, None}
+use Rattle.std.proofs.Common.{◌≡◌, ℕ, ◌+◌, ◌-◌, ◌*◌, ◌≤◌, ◌<◌, List, [], ◌∷◌, ◌++◌, refl, sym, ap, ◌∙◌, arith, zero, suc, get_or, set, length, true, false, ◌||◌, Bool, inl, inr, append_assoc, length-append, ne_eqb, subst, None}
 use Rattle.std.proofs.lemmas.Bool.Decides.{eqb_tells}
 use Rattle.std.proofs.lemmas.List.{get_or-set_same, get_or-set_other, length-set}
 use Rattle.ddl_types.specs.Types.{Ty, Tys, Ty.var, Ty.con, Tys.none, Tys.more, Sub, on, Below}
@@ -7,16 +7,15 @@ use Rattle.ddl_types.specs.TyView.{ty_view}
 use Rattle.ddl_unify.specs.declared.store.Bound.{Bound}
 use Rattle.ddl_unify.specs.View.{bounds, onto, bound_view}
 use Rattle.ddl_unify.specs.Occurs.{count, count_all, has, has_all, size, is_var}
-use Rattle.ddl_unify.specs.Equations.{Equation, equal, Solves, EachBelow, Holds}
+use Rattle.ddl_unify.specs.Equations.{Equation, equal, EachBelow}
 use Rattle.ddl_unify.specs.Bindings.{Binding, solution, Agrees, Unbound, Sound, ToBelow}
 use Rattle.ddl_unify.specs.Measures.{weight, steps, zeros}
 use Rattle.ddl_unify.specs.Kept.{Kept, IsFrom, Step, StepIs, ApartUnder}
 use Rattle.ddl_unify.specs.Solving.{Extends, Fine}
 use Rattle.ddl_unify.proofs.Sub.{count_differs}
-use Rattle.ddl_unify.proofs.ReadingLemmas.{read_then, unbound_read}
+use Rattle.ddl_unify.proofs.ReadingLemmas.{read_then}
 use Rattle.ddl_unify.proofs.Steps.{steps_bind, steps_less, weight_bound, holds_none, size_some}
 use Rattle.ddl_unify.proofs.Stored.{bounds_more}
-use Rattle.ddl_unify.proofs.Opening.{var_is}
 
 unbound_under : (bs : List Binding) (xs : List Bound) (v : ℕ) → Unbound v (onto bs xs) → Unbound v bs
 unbound_under bs [] v u = u

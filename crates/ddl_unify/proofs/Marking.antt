@@ -1,36 +1,30 @@
 -- Which variables were read, and that none of them holds the one that is looked for.
-use Rattle.std.proofs.Common.{◌≡◌, ℕ, ◌+◌, ◌<◌, ◌≢◌, List, [], ◌∷◌, refl, sym, ap, ◌∙◌, arith, inl, inr, ◌⊎◌, map, take, length, get_or, zero, suc, set, replicate, true, false, ◌||◌, Bool, add-one, subst}
-use Rattle.std.proofs.lemmas.Bool.Decides.{eqb_tells}
-use Rattle.std.proofs.lemmas.List.{get_or-set_same, get_or-set_other}
+use Rattle.std.proofs.Common.{◌≡◌, ℕ, ◌+◌, ◌<◌, List, [], ◌∷◌, refl, sym, ap, ◌∙◌, arith, inl, inr, ◌⊎◌, map, take, length, get_or, zero, suc, true, false, ◌||◌, Bool, add-one, nat_eq, eqb-true, if◌then◌else◌}
 use Rattle.ddl_types.specs.declared.ty.Ty as program
-use Rattle.ddl_types.specs.Types.{Head, Ty, Ty.var, Ty.con, Tys.none, Tys.more, Sub, on, on_all, tys_of}
+use Rattle.ddl_types.specs.Types.{Head, Ty, Ty.var, Ty.con, Tys.none, Tys.more, Sub, on, tys_of}
 use Rattle.ddl_types.specs.TyView.{ty_view}
 use Rattle.ddl_unify.specs.declared.store.Bound.{Bound}
 use Rattle.ddl_unify.specs.View.{bounds}
-use Rattle.ddl_unify.specs.Occurs.{has, has_all}
-use Rattle.ddl_unify.specs.Bindings.{solution, Binds, Unbound}
-use Rattle.ddl_unify.specs.Kept.{Kept}
+use Rattle.ddl_unify.specs.Occurs.{has}
+use Rattle.ddl_unify.specs.Bindings.{solution}
 use Rattle.ddl_unify.specs.Solving.{Marks, MarkedOne, list_has}
 use Rattle.ddl_unify.proofs.ReadingLemmas.{kept_read, kept_less, unbound_read}
 
-false_at : (n m : ℕ) → get_or (replicate n false) m false ≡ true → ⊥
-false_at zero m e = let q : false ≡ true = e in cc
-false_at (suc n) zero e = let q : false ≡ true = e in cc
-false_at (suc n) (suc m) e = false_at n m e
-
 -- no variable is marked at first
-pub marks_none : (n : ℕ) (xs : List Bound) (v : ℕ) → Marks (replicate n false) xs v
-marks_none n xs v m e = absurd (false_at n m e)
-
-pub marked_set : (seen : List Bool) (n : ℕ) → n < length seen → MarkedOne seen (set seen n true) n
-marked_set seen n h m e = elim (eqb_tells m n) [ inl q ↦ inl q.1 | inr q ↦ inr (sym (get_or-set_other seen n m true false q.1) ∙ e) ]
-
-pub marked_same : (seen : List Bool) (n : ℕ) → MarkedOne seen seen n
-marked_same seen n m e = inr e
+pub marks_none : (seen : ℕ → Bool) (xs : List Bound) (v : ℕ) → ((n : ℕ) → seen n ≡ false) → Marks seen xs v
+marks_none seen xs v h m e = let q = h m in absurd (let z : false ≡ true = sym q ∙ e in cc)
 
 -- a variable that was read without the one that is looked for may be marked
-pub marks_more : (seen seen2 : List Bool) (xs : List Bound) (v n : ℕ) → Marks seen xs v → MarkedOne seen seen2 n → has (on (var n) (solution (bounds xs))) v ≡ false → Marks seen2 xs v
+pub marks_more : (seen seen2 : ℕ → Bool) (xs : List Bound) (v n : ℕ) → Marks seen xs v → MarkedOne seen seen2 n → has (on (var n) (solution (bounds xs))) v ≡ false → Marks seen2 xs v
 marks_more seen seen2 xs v n k o z m e = elim (o m e) [ inl q ↦ ap (λ i. has (solution (bounds xs) i) v) q ∙ z | inr q ↦ k m q ]
+
+-- one key more marks one variable more
+pub marked_one : (seen seen2 : ℕ → Bool) (n : ℕ) → ((m : ℕ) → seen2 m ≡ (if nat_eq n m then true else seen m)) → MarkedOne seen seen2 n
+marked_one seen seen2 n h m e = by_test (nat_eq n m) refl (sym (h m) ∙ e)
+  where
+    by_test : (b : Bool) → nat_eq n m ≡ b → (if b then true else seen m) ≡ true → (m ≡ n) ⊎ (seen m ≡ true)
+    by_test true q e = inl (sym (eqb-true n m q))
+    by_test false q e = inr e
 
 or_false : (a : Bool) → (a || false) ≡ a
 or_false true = refl

@@ -3,11 +3,11 @@ use Rattle.std.proofs.Common.{◌≡◌, ℕ, ◌+◌, ◌≤◌, ◌<◌, List,
 use Rattle.std.proofs.lemmas.Bool.Decides.{eqb_tells}
 use Rattle.std.proofs.lemmas.List.{map-append}
 use Rattle.ddl_types.specs.declared.ty.Ty as program
-use Rattle.ddl_types.specs.Types.{Head, Head.int, Head.uint, Head.sint, Head.bool, Head.unit, Head.stream, Head.maybe_of, Head.array_of, Head.map_of, Head.bits, Head.place, Ty, Ty.var, Ty.con, Tys, Tys.none, Tys.more, Sub, on, on_all, tys_of, Below, BelowAll}
+use Rattle.ddl_types.specs.Types.{Head, Head.int, Head.uint, Head.sint, Head.bool, Head.unit, Head.stream, Head.maybe_of, Head.array_of, Head.map_of, Head.bits, Head.place, Ty, Ty.var, Ty.con, Tys, Tys.none, Tys.more, Sub, on_all, tys_of, BelowAll}
 use Rattle.ddl_types.specs.TyView.{ty_view}
 use Rattle.ddl_unify.specs.declared.store.Pair.{Pair}
 use Rattle.ddl_unify.specs.View.{equations, pair_view}
-use Rattle.ddl_unify.specs.Occurs.{size, size_all}
+use Rattle.ddl_unify.specs.Occurs.{size_all}
 use Rattle.ddl_unify.specs.Equations.{Equation, equal, Solves, EachBelow, Apart}
 use Rattle.ddl_unify.specs.Bindings.{Binding, solution}
 use Rattle.ddl_unify.specs.Measures.{weight}

@@ -7,6 +7,7 @@ use Rattle.ddl_types.proofs.Arguments.{on_place}
 use Rattle.ddl_unify.specs.declared.store.Bound.{Bound}
 use Rattle.ddl_unify.specs.View.{bounds}
 use Rattle.ddl_unify.specs.Kept.{Kept}
+use Rattle.ddl_unify.specs.Solving.{Followed}
 use Rattle.ddl_unify.specs.Occurs.{one, count, count_all}
 use Rattle.ddl_unify.specs.Equations.{Equation, Solves, MostGeneral}
 use Rattle.ddl_unify.specs.Bindings.{Binding, solution, Agrees, Unbound, Binds, Sound}
@@ -102,4 +103,21 @@ weighed_at w [] k x h e = absurd (omega arith)
 weighed_at w (y ∷ xs) zero x h e = omega (arith, ap (λ z. weighed (ty_view z) w) e)
 weighed_at w (y ∷ xs) (suc k) x h e = omega (arith, weighed_at w xs k x (omega arith) e)
 
-pub ruleset reads = (read_place, unbound_read, kept_read, kept_less)
+pub followed_first : (xs : List Bound) (t : Ty) → Followed xs t t
+followed_first xs t = record { same = refl; lighter = omega arith }
+
+pub followed_more : (place : List ℕ) (xs : List Bound) (t u : Ty) (v : ℕ) (w : Ty) → Kept place xs → Followed xs t u → u ≡ var v → Binds (bounds xs) v w → Followed xs t w
+followed_more place xs t u v w k f e h = record {
+  same = sym (kept_read place xs v w k h) ∙ ap (λ x. on x (solution (bounds xs))) (sym e) ∙ f.same;
+  lighter = omega (arith, kept_less place xs v w k h, f.lighter, ap (λ x. weighed x (cost (bounds xs))) e);
+}
+
+pub followed_read : (place : List ℕ) (xs : List Bound) (v : ℕ) (t u : Ty) → Kept place xs → Binds (bounds xs) v t → Followed xs t u → on u (solution (bounds xs)) ≡ solution (bounds xs) v
+followed_read place xs v t u k h f = f.same ∙ sym (kept_read place xs v t k h)
+
+pub followed_less : (place : List ℕ) (xs : List Bound) (v : ℕ) (t u : Ty) → Kept place xs → Binds (bounds xs) v t → Followed xs t u → weighed u (cost (bounds xs)) < cost (bounds xs) v
+followed_less place xs v t u k h f = omega (arith, kept_less place xs v t k h, f.lighter)
+
+pub ruleset reads = (read_place, unbound_read, kept_read, kept_less, followed_read, followed_less)
+
+pub ruleset follows = (followed_first, followed_more, kept_less)

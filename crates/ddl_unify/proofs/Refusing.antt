@@ -1,19 +1,16 @@
 -- When an equation is endless, and when it clashes.
-use Rattle.std.proofs.Common.{◌≡◌, ℕ, List, [], ◌∷◌, ◌++◌, refl, sym, ap, ◌∙◌, inl, inr, ◌⊎◌, ◌≢◌, Some, None, Option, Bool, true, false, subst, if◌then◌else◌, is_some}
+use Rattle.std.proofs.Common.{◌≡◌, ℕ, List, [], ◌∷◌, ◌++◌, refl, sym, ap, ◌∙◌, inl, inr, ◌≢◌, Some, None, Option, Bool, true, false, subst, if◌then◌else◌, is_some}
 use Rattle.ddl_types.specs.Types.{Ty, Sub, on, Ty.var, Ty.con}
 use Rattle.ddl_unify.specs.declared.store.Bound.{Bound}
 use Rattle.ddl_unify.specs.View.{bounds}
 use Rattle.ddl_unify.specs.Occurs.{has, has_all, count_all, is_var}
-use Rattle.ddl_unify.specs.Equations.{Equation, equal, Solves, MostGeneral, Unsolvable, Holds, Endless}
-use Rattle.ddl_unify.specs.Bindings.{Binding, solution, Agrees}
-use Rattle.ddl_unify.specs.Kept.{Kept, Solved, Holding, ApartUnder}
-use Rattle.ddl_unify.specs.Solving.{Fine, Unchanged, holder}
+use Rattle.ddl_unify.specs.Equations.{Equation, equal, Unsolvable, Holds, Endless}
+use Rattle.ddl_unify.specs.Bindings.{solution}
+use Rattle.ddl_unify.specs.Solving.{holder}
 use Rattle.ddl_types.specs.TyView.{ty_view}
 use Rattle.ddl_unify.specs.declared.refusal.EquateError.{EquateError}
 use Rattle.ddl_unify.specs.declared.refusal.EquateError.TheVariants as e
 use Rattle.ddl_unify.specs.Refused.{AreRead, AreHeld, IsClash, Refused}
-use Rattle.ddl_unify.proofs.ReadingLemmas.{read_then, most_general}
-use Rattle.ddl_unify.proofs.Steps.{solves_append, solves_front, solves_back, holds_none}
 use Rattle.ddl_unify.proofs.Keeping.{has_count_all, count_has_all}
 
 pub holder_var : (x : Ty) (v : ℕ) → is_some (is_var x) ≡ true → holder (var v) x ≡ None

@@ -1,5 +1,5 @@
 -- Substitutions.
-use Rattle.std.proofs.Common.{◌≡◌, ℕ, ◌+◌, ◌==◌, if◌then◌else◌, ◌≢◌, refl, sym, ap, ◌∙◌, arith, inl, inr}
+use Rattle.std.proofs.Common.{◌≡◌, ℕ, ◌+◌, ◌≢◌, refl, sym, ap, ◌∙◌, arith, inl, inr}
 use Rattle.std.proofs.lemmas.Bool.Decides.{eqb_tells}
 use Rattle.ddl_types.specs.Types.{Ty, Tys, Ty.var, Ty.con, Tys.none, Tys.more, Sub, on, on_all}
 use Rattle.ddl_unify.specs.Occurs.{one, count, count_all}

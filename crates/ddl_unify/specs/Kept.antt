@@ -1,5 +1,5 @@
 -- Bindings with the place of each variable's own: 0 for none, k + 1 for the k-th, and what solving leaves.
-use Rattle.std.specs.Prelude.{◌≡◌, ℕ, ◌+◌, ◌<◌, List, [], ◌∷◌, length, get_or, zero, suc, Bool, true, false, ◌++◌}
+use Rattle.std.specs.Prelude.{◌≡◌, ℕ, ◌+◌, ◌<◌, List, [], ◌∷◌, length, get_or, zero, suc, Bool, true, false}
 use Rattle.ddl_types.specs.Types.{Ty, Sub, on, Below}
 use Rattle.ddl_unify.specs.declared.store.Bound.{Bound}
 use Rattle.ddl_unify.specs.Occurs.{size}

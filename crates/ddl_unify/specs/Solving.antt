@@ -1,11 +1,12 @@
 -- What is said of each part of solving.
-use Rattle.std.specs.Prelude.{◌≡◌, ℕ, List, [], ◌∷◌, ◌++◌, length, get_or, ◌⊎◌, ◌||◌, Option, Some, None, if◌then◌else◌, Bool, true, false, Result, Ok, Err}
+use Rattle.std.specs.Prelude.{◌≡◌, ◌≤◌, ℕ, List, [], ◌∷◌, ◌++◌, length, ◌⊎◌, ◌||◌, Option, Some, None, if◌then◌else◌, Bool, true, false, Result, Ok, Err}
 use Rattle.ddl_base.specs.declared.memory.NoMemory.{NoMemory}
 use Rattle.ddl_types.specs.Types.{Ty, Ty.var, Ty.con, Sub, on, Below}
 use Rattle.ddl_unify.specs.declared.store.Bound.{Bound}
 use Rattle.ddl_unify.specs.View.{bounds}
 use Rattle.ddl_unify.specs.Occurs.{has, has_all}
 use Rattle.ddl_unify.specs.Heads.{IsCon}
+use Rattle.ddl_unify.specs.Measures.{weighed, cost}
 use Rattle.ddl_unify.specs.Equations.{Equation, equal, Solves, EachBelow}
 use Rattle.ddl_unify.specs.Bindings.{Agrees, solution}
 use Rattle.ddl_unify.specs.Kept.{Kept, Solved, ApartUnder}
@@ -42,12 +43,12 @@ Tried (Ok d) place place2 a b l r = TriedIs d place place2 a b l r
 Tried (Err e) place place2 a b l r = Unchanged place place2 a b
 
 -- a variable that is marked was read, and the variable v does not stand there
-abbrev pub Marks : List Bool → List Bound → ℕ → Type 0
-Marks seen xs v = (n : ℕ) → get_or seen n false ≡ true → has (on (var n) (solution (bounds xs))) v ≡ false
+abbrev pub Marks : (ℕ → Bool) → List Bound → ℕ → Type 0
+Marks seen xs v = (n : ℕ) → seen n ≡ true → has (on (var n) (solution (bounds xs))) v ≡ false
 
 -- one more variable may be marked
-abbrev pub MarkedOne : List Bool → List Bool → ℕ → Type 0
-MarkedOne seen seen2 n = (m : ℕ) → get_or seen2 m false ≡ true → (m ≡ n) ⊎ (get_or seen m false ≡ true)
+abbrev pub MarkedOne : (ℕ → Bool) → (ℕ → Bool) → ℕ → Type 0
+MarkedOne seen seen2 n = (m : ℕ) → seen2 m ≡ true → (m ≡ n) ⊎ (seen m ≡ true)
 
 -- whether a variable stands in one of the types of a list, as they are read
 abbrev pub list_has : ℕ → Sub → List Ty → Bool
@@ -72,3 +73,8 @@ pub record Back (n : ℕ) (place place2 : List ℕ) (a b : List Bound) : Type 0 
   pub long : length place2 ≡ length place
   pub shorter : length b ≡ n
   pub extends : Extends b a
+
+-- a type that is read as another, and weighs no more
+pub record Followed (xs : List Bound) (t u : Ty) : Type 0 where
+  pub same : on u (solution (bounds xs)) ≡ on t (solution (bounds xs))
+  pub lighter : weighed u (cost (bounds xs)) ≤ weighed t (cost (bounds xs))

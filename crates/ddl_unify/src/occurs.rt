@@ -1,6 +1,7 @@
 //! Whether a variable stands in a type as the bindings read it.
 
-ghost use Rattle.std.specs.Prelude.{◌≡◌, ◌⊎◌, ℕ, IfOk, true, false, map, length, get_or};
+ghost use Rattle.std.specs.Prelude.{◌≡◌, IfOk, OnOk, map, nat_eq};
+ghost use Rattle.std.specs.HashSet.{contains};
 ghost use Rattle.ddl_types.specs.Types.{Ty.var, on, tys_of};
 ghost use Rattle.ddl_types.specs.TyView.{ty_view};
 ghost use Rattle.ddl_unify.specs.Occurs.{has, has_all};
@@ -14,6 +15,7 @@ use crate::store::Bound;
 use ddl_base::NoMemory;
 use ddl_types::Ty;
 use std::alloc::Global;
+use std::collections::HashSet;
 
 /// Whether a variable stands in a type. Each bound variable is followed once.
 #[tactic(auto, using(crate::proofs::Marking::markings))]
@@ -27,97 +29,133 @@ pub fn occurs(
     requires { Kept place.now trail.now }
     ensures { IfOk result (λ b. b ≡ has (on (ty_view t.now) (solution (bounds trail.now))) v) }
 {
-    let mut seen = vec![in alloc; false; place.len()]?;
-    let found = stands(place, trail, &mut seen, t, v);
+    let mut seen = HashSet::new(alloc);
+    let found = stands(place, trail, &mut seen, t, v)?;
     Ok(found)
 }
 
-/// Whether a variable was marked.
-fn is_marked(seen: &[bool], n: u32) -> bool
-    ensures { result ≡ get_or seen.now n false }
+/// Whether a variable was followed.
+fn is_marked(seen: &HashSet<u32>, n: u32) -> bool
+    ensures { result ≡ contains nat_eq seen.now n }
 {
-    match seen.get(n as usize) {
-        Some(mark) => *mark,
-        None => false,
-    }
+    seen.contains(&n)
 }
 
-/// Marks a variable, where there is room for its mark.
-fn mark(seen: &mut [bool], n: u32)
-    ensures { MarkedOne seen.old seen.new n }
+/// Marks a variable as followed.
+fn mark(seen: &mut HashSet<u32>, n: u32) -> Result<(), NoMemory>
+    ensures { OnOk result (MarkedOne (contains nat_eq seen.old) (contains nat_eq seen.new) n) }
 {
-    if (n as usize) < seen.len() {
-        seen[n as usize] = true;
-    }
+    seen.insert(n)?;
+    Ok(())
 }
 
 #[cycle(stands)]
 #[tactic(auto, using(ddl_types::proofs::TyLayers::layers, crate::proofs::Marking::standings))]
-fn stands(place: &[u32], trail: &[Bound], seen: &mut [bool], t: &Ty, v: u32) -> bool
+fn stands(
+    place: &[u32],
+    trail: &[Bound],
+    seen: &mut HashSet<u32>,
+    t: &Ty,
+    v: u32,
+) -> Result<bool, NoMemory>
     requires kept { Kept place.now trail.now }
-    requires marks { Marks seen.old trail.now v }
-    ensures marks { Marks seen.new trail.now v }
-    ensures found { result ≡ has (on (ty_view t.now) (solution (bounds trail.now))) v }
+    requires marks { Marks (contains nat_eq seen.old) trail.now v }
+    ensures marks { OnOk result (Marks (contains nat_eq seen.new) trail.now v) }
+    ensures found { IfOk result (λ b. b ≡ has (on (ty_view t.now) (solution (bounds trail.now))) v) }
 {
     match t {
-        Ty::Var(n) => stands_at(place, trail, seen, *n, v),
-        Ty::Maybe(inner) => stands(place, trail, seen, inner, v),
-        Ty::Array(element) => stands(place, trail, seen, element, v),
-        Ty::Map(key, value) => {
-            if stands(place, trail, seen, key, v) {
-                return true;
-            }
-            stands(place, trail, seen, value, v)
+        Ty::Var(n) => {
+            let found = stands_at(place, trail, seen, *n, v)?;
+            Ok(found)
         }
-        Ty::Place(_, ts) => stands_in(place, trail, seen, ts, v),
-        _ => false,
+        Ty::Maybe(inner) => {
+            let found = stands(place, trail, seen, inner, v)?;
+            Ok(found)
+        }
+        Ty::Array(element) => {
+            let found = stands(place, trail, seen, element, v)?;
+            Ok(found)
+        }
+        Ty::Map(key, value) => {
+            if stands(place, trail, seen, key, v)? {
+                return Ok(true);
+            }
+            let found = stands(place, trail, seen, value, v)?;
+            Ok(found)
+        }
+        Ty::Place(_, ts) => {
+            let found = stands_in(place, trail, seen, ts, v)?;
+            Ok(found)
+        }
+        _ => Ok(false),
     }
 }
 
 #[cycle(stands)]
 #[tactic(auto, using(ddl_types::proofs::TyLayers::layers, crate::proofs::Marking::standings))]
-fn stands_in(place: &[u32], trail: &[Bound], seen: &mut [bool], ts: &[Ty], v: u32) -> bool
+fn stands_in(
+    place: &[u32],
+    trail: &[Bound],
+    seen: &mut HashSet<u32>,
+    ts: &[Ty],
+    v: u32,
+) -> Result<bool, NoMemory>
     requires kept { Kept place.now trail.now }
-    requires marks { Marks seen.old trail.now v }
-    ensures marks { Marks seen.new trail.now v }
-    ensures found { result ≡ list_has v (solution (bounds trail.now)) (map ty_view ts.now) }
+    requires marks { Marks (contains nat_eq seen.old) trail.now v }
+    ensures marks { OnOk result (Marks (contains nat_eq seen.new) trail.now v) }
+    ensures found { IfOk result (λ b. b ≡ list_has v (solution (bounds trail.now)) (map ty_view ts.now)) }
 {
     for t in ts {
-        if stands(place, trail, seen, t, v) {
-            return true;
+        if stands(place, trail, seen, t, v)? {
+            return Ok(true);
         }
     }
-    false
+    Ok(false)
 }
 
 #[cycle(stands)]
 #[tactic(auto, using(ddl_types::proofs::TyLayers::layers, crate::proofs::Marking::standings))]
-fn stands_at(place: &[u32], trail: &[Bound], seen: &mut [bool], n: u32, v: u32) -> bool
+fn stands_at(
+    place: &[u32],
+    trail: &[Bound],
+    seen: &mut HashSet<u32>,
+    n: u32,
+    v: u32,
+) -> Result<bool, NoMemory>
     requires kept { Kept place.now trail.now }
-    requires marks { Marks seen.old trail.now v }
-    ensures marks { Marks seen.new trail.now v }
-    ensures found { result ≡ has (on (var n) (solution (bounds trail.now))) v }
+    requires marks { Marks (contains nat_eq seen.old) trail.now v }
+    ensures marks { OnOk result (Marks (contains nat_eq seen.new) trail.now v) }
+    ensures found { IfOk result (λ b. b ≡ has (on (var n) (solution (bounds trail.now))) v) }
 {
     if is_marked(seen, n) {
-        return false;
+        return Ok(false);
     }
-    if stands_behind(place, trail, seen, n, v) {
-        return true;
+    if stands_behind(place, trail, seen, n, v)? {
+        return Ok(true);
     }
-    mark(seen, n);
-    false
+    mark(seen, n)?;
+    Ok(false)
 }
 
 #[cycle(stands)]
 #[tactic(auto, using(ddl_types::proofs::TyLayers::layers, crate::proofs::Marking::standings))]
-fn stands_behind(place: &[u32], trail: &[Bound], seen: &mut [bool], n: u32, v: u32) -> bool
+fn stands_behind(
+    place: &[u32],
+    trail: &[Bound],
+    seen: &mut HashSet<u32>,
+    n: u32,
+    v: u32,
+) -> Result<bool, NoMemory>
     requires kept { Kept place.now trail.now }
-    requires marks { Marks seen.old trail.now v }
-    ensures marks { Marks seen.new trail.now v }
-    ensures found { result ≡ has (on (var n) (solution (bounds trail.now))) v }
+    requires marks { Marks (contains nat_eq seen.old) trail.now v }
+    ensures marks { OnOk result (Marks (contains nat_eq seen.new) trail.now v) }
+    ensures found { IfOk result (λ b. b ≡ has (on (var n) (solution (bounds trail.now))) v) }
 {
     match bound_to(place, trail, n) {
-        None => n == v,
-        Some(to) => stands(place, trail, seen, to, v),
+        None => Ok(n == v),
+        Some(to) => {
+            let found = stands(place, trail, seen, to, v)?;
+            Ok(found)
+        }
     }
 }

@@ -8,6 +8,7 @@ ghost use Rattle.ddl_unify.specs.Heads.{IsCon};
 ghost use Rattle.ddl_unify.specs.Bindings.{Binds, Unbound, solution};
 ghost use Rattle.ddl_unify.specs.View.{bounds};
 ghost use Rattle.ddl_unify.specs.Kept.{Kept};
+ghost use Rattle.ddl_unify.specs.Solving.{Followed};
 
 use crate::store::Bound;
 use ddl_base::NoMemory;
@@ -29,6 +30,23 @@ pub fn bound_to<'a>(place: &[u32], trail: &'a [Bound], v: u32) -> Option<&'a Ty>
             }
         }
     }
+}
+
+/// What a chain of bound variables ends in: a variable that is not bound, or a type that is none.
+#[tactic(auto, using(ddl_types::proofs::TyLayers::layers, crate::proofs::ReadingLemmas::follows))]
+pub fn followed<'a>(place: &[u32], trail: &'a [Bound], t: &'a Ty) -> &'a Ty
+    requires { Kept place.now trail.now }
+    ensures followed { Followed trail.now (ty_view t.now) (ty_view result.now) }
+    ensures last { MatchOption (is_var (ty_view result.now)) (Unit {0}) (λ v. Unbound v (bounds trail.now)) }
+{
+    let mut at = t;
+    while let Ty::Var(v) = at {
+        match bound_to(place, trail, *v) {
+            None => return at,
+            Some(to) => at = to,
+        }
+    }
+    at
 }
 
 /// The variable that is not bound and that a type is read as, if it is one.
@@ -96,7 +114,8 @@ fn read_variable(alloc: Global, place: &[u32], trail: &[Bound], v: u32) -> Resul
     match bound_to(place, trail, v) {
         None => Ok(Ty::Var(v)),
         Some(to) => {
-            let r = read(alloc, place, trail, to)?;
+            let last = followed(place, trail, to);
+            let r = read(alloc, place, trail, last)?;
             Ok(r)
         }
     }

@@ -92,7 +92,11 @@ fn clashes_are_told_with_whole_sides(rt: HostRuntime) -> Result<(), Fail> {
     let answer = solver.equate(&Ty::Int, &Ty::Bool);
     assert!(rt; clashes(&answer, &Ty::Int, &Ty::Bool));
     // inside, after variables were bound: `?0 = [?1]`, `?1 = int`, `?0 = [bool]`
-    assert!(rt; solver.equate(&Ty::Var(0), &array(alloc, Ty::Var(1))?).is_ok());
+    assert!(rt;
+        solver
+            .equate(&Ty::Var(0), &array(alloc, Ty::Var(1))?)
+            .is_ok()
+    );
     assert!(rt; solver.equate(&Ty::Var(1), &Ty::Int).is_ok());
     let bools = array(alloc, Ty::Bool)?;
     let answer = solver.equate(&Ty::Var(0), &bools);
@@ -128,7 +132,11 @@ fn endless_equations_are_told(rt: HostRuntime) -> Result<(), Fail> {
     let answer = solver.equate(&held, &Ty::Var(0));
     assert!(rt; is_endless(&answer, 0, &held));
     // through two equations: `?1 = [?2]`, `?2 = [?1]`
-    assert!(rt; solver.equate(&Ty::Var(1), &array(alloc, Ty::Var(2))?).is_ok());
+    assert!(rt;
+        solver
+            .equate(&Ty::Var(1), &array(alloc, Ty::Var(2))?)
+            .is_ok()
+    );
     let answer = solver.equate(&Ty::Var(2), &array(alloc, Ty::Var(1))?);
     assert!(rt; is_endless(&answer, 2, &array(alloc, array(alloc, Ty::Var(2))?)?));
     // the refused equations are not kept

@@ -1,4 +1,4 @@
-use Rattle.std.proofs.Common.{◌≡◌, ap, sym, ◌∙◌, true, map, length, rules, arith}
+use Rattle.std.proofs.Common.{◌≡◌, ap, sym, ◌∙◌, map, arith}
 use Rattle.ddl_types.specs.Types.{Head.place, Ty.con, tys_of}
 use Rattle.ddl_types.specs.TyView.{ty_view}
 use Rattle.ddl_types.proofs.TyLayers.{layers}

@@ -1,4 +1,5 @@
-use Rattle.std.proofs.Common.{◌≡◌, ◌+◌, ◌*◌, map, take, false}
+use Rattle.std.proofs.Common.{◌≡◌, ◌+◌, ◌*◌, map, take, false, nat_eq}
+use Rattle.std.specs.HashSet.{contains}
 use Rattle.ddl_types.specs.Types.{tys_of}
 use Rattle.ddl_types.specs.TyView.{ty_view}
 use Rattle.ddl_unify.specs.Bindings.{solution}
@@ -9,7 +10,7 @@ use Rattle.ddl_unify.proofs.occurs.+stands.Given as goal
 
 abbrev pub invariant-stands_in-loop-t : goal.invariant-stands_in-loop-t
 invariant-stands_in-loop-t l = record {
-  marks : Marks l.seen l.trail l.v;
+  marks : Marks (contains nat_eq l.seen) l.trail l.v;
   before : list_has l.v (solution (bounds l.trail)) (map ty_view (take l.t-index l.ts)) ≡ false;
 }
 

@@ -1,4 +1,4 @@
-use Rattle.std.proofs.Common.{◌≡◌, ◌∷◌, ◌++◌, ◌∙◌, sym, [], List, length, rules, subst, Bool, ℕ}
+use Rattle.std.proofs.Common.{◌≡◌, ◌∙◌, sym, List, length, rules, subst, Bool, ℕ}
 use Rattle.ddl_types.specs.TyView.{ty_view}
 use Rattle.ddl_unify.specs.declared.store.Bound.{Bound}
 use Rattle.ddl_unify.specs.declared.store.Pair.{Pair}

@@ -1,4 +1,4 @@
-use Rattle.std.proofs.Common.{◌≡◌, sym, ap, ◌∙◌, true}
+use Rattle.std.proofs.Common.{true}
 use Rattle.ddl_types.specs.TyView.{ty_view}
 use Rattle.ddl_unify.proofs.Keeping.{step_held}
 use Rattle.ddl_unify.proofs.Deref.{read_is, read_none, read_has, free_is, variable_below, step_alias}

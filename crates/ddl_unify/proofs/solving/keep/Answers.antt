@@ -1,4 +1,4 @@
-use Rattle.std.proofs.Common.{◌≡◌, rules}
+use Rattle.std.proofs.Common.{rules}
 use Rattle.ddl_unify.proofs.Keeping.{fine_more, step_more}
 use Rattle.ddl_unify.proofs.solving.keep.Goals as goal
 

@@ -1,4 +1,4 @@
-use Rattle.std.proofs.Common.{◌≡◌, ℕ, sym, ap, ◌∙◌, false, rules, length, subst}
+use Rattle.std.proofs.Common.{◌≡◌, ℕ, sym, ap, ◌∙◌, rules, length, subst}
 use Rattle.std.proofs.Common.{ne_eqb}
 use Rattle.ddl_types.specs.declared.ty.Ty as program
 use Rattle.ddl_types.specs.Types.{Ty, Ty.var, on, Below}

@@ -1,7 +1,7 @@
-use Rattle.std.proofs.Common.{◌≡◌, ◌++◌, ◌∷◌, ap, sym, ◌∙◌, true, false, subst, Bool, List, [], length, ℕ, arith, rules}
+use Rattle.std.proofs.Common.{◌≡◌, ◌∷◌, ap, subst, Bool, [], length, arith}
 use Rattle.std.proofs.lemmas.Grind.{common_steps}
 use Rattle.ddl_types.specs.TyView.{ty_view}
-use Rattle.ddl_unify.specs.View.{bounds, equations, pair_view}
+use Rattle.ddl_unify.specs.View.{equations, pair_view}
 use Rattle.ddl_unify.specs.Kept.{StepIs}
 use Rattle.ddl_unify.proofs.Parts.{equations_last, below_front, below_back}
 use Rattle.ddl_unify.proofs.Going.{going_below, going_next, going_stop, going_done, going_smaller}

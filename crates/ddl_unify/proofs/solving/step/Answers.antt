@@ -1,4 +1,3 @@
-use Rattle.std.proofs.Common.{◌≡◌}
 use Rattle.ddl_types.specs.Types.{Ty.var}
 use Rattle.ddl_types.specs.TyView.{ty_view}
 use Rattle.ddl_unify.specs.View.{equations}

@@ -1,4 +1,4 @@
-use Rattle.std.proofs.Common.{◌≡◌, ◌<◌, length, arith, rules}
+use Rattle.std.proofs.Common.{◌<◌, length, rules}
 use Rattle.ddl_unify.proofs.Undoing.{undo_within, undo_kept}
 use Rattle.ddl_unify.proofs.solving.undo_one.Goals as goal
 

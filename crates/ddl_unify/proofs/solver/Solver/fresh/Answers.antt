@@ -1,4 +1,4 @@
-use Rattle.std.proofs.Common.{◌≡◌, ◌++◌, ◌∷◌, [], ℕ, List, sym, subst, length}
+use Rattle.std.proofs.Common.{ℕ, List, sym, subst}
 use Rattle.ddl_unify.specs.View.{equations}
 use Rattle.ddl_unify.specs.Kept.{Holding}
 use Rattle.ddl_unify.proofs.Equating.{holding_fresh}

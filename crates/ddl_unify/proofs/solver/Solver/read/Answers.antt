@@ -1,4 +1,4 @@
-use Rattle.std.proofs.Common.{◌≡◌, List, ℕ, subst, length}
+use Rattle.std.proofs.Common.{List, ℕ, subst}
 use Rattle.ddl_unify.specs.declared.store.Pair.{Pair}
 use Rattle.ddl_unify.specs.declared.store.Bound.{Bound}
 use Rattle.ddl_unify.specs.Equations.{MostGeneral}
