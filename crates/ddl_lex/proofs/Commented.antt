@@ -19,7 +19,7 @@ one_more_by : (x y : Option ℕ) (n : ℕ) → ((m : ℕ) → x ≡ Some m → y
 one_more_by None y n h e = cc
 one_more_by (Some m) y n h e = let f : y ≡ Some m = h m refl in ap one_more f ∙ e
 
-comment_more : (depth before : ℕ) (text : List ℕ) (k n : ℕ) → comment depth before (take k text) ≡ Some n → comment depth before text ≡ Some n
+pub comment_more : (depth before : ℕ) (text : List ℕ) (k n : ℕ) → comment depth before (take k text) ≡ Some n → comment depth before text ≡ Some n
 comment_more zero before [] zero n e = cc
 comment_more zero before [] (suc k) n e = cc
 comment_more (suc depth) before [] zero n e = cc

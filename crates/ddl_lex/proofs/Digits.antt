@@ -1,6 +1,6 @@
 -- The number at a place has all digits of its base that follow.
 use Rattle.std.proofs.Common.{◌≡◌, ◌<◌, ◌≤◌, ℕ, zero, suc, ◌+◌, ◌==◌, ◌&&◌, ◌^◌, nat_lt, Bool, true, false, List, [], ◌∷◌, ◌++◌, length, take, drop, Option, Some, None, Result, Ok, Err, inl, inr, refl, ap, sym, subst, ◌∙◌, arith, if◌then◌else◌}
-use Rattle.std.proofs.lemmas.Bool.{ltb-true}
+use Rattle.std.proofs.lemmas.Bool.{ltb-true, lt-ltb}
 use Rattle.std.proofs.lemmas.Bool.Decides.{nat_tests}
 use Rattle.ddl_token.specs.declared.token.Tok.{Tok}
 use Rattle.ddl_token.specs.declared.token.Tok.TheVariants as t
@@ -17,7 +17,7 @@ use Rattle.ddl_lex.proofs.Lengths.{taken}
 use Rattle.ddl_lex.proofs.Firsts.{class_of, Begins, begins}
 
 -- how many bytes a number of the base has
-abbrev extent : Base → List ℕ → ℕ
+abbrev pub extent : Base → List ℕ → ℕ
 extent base text = base_mark base + run (is_digit_of base) (drop (base_mark base) text)
 
 -- both parts of a test
@@ -188,6 +188,26 @@ number_by : (tok : Tok) (n : ℕ) (v : Bool) (good bad : Result (Option Tok × �
 number_by tok n true good bad e found k g f h = let pair : Option Tok × ℕ = (found, k) in let want : Option Tok × ℕ = (Some tok, n) in let same : pair ≡ want = cc in (ap (λ z. z.0) same, ap (λ z. z.1) same, refl)
 number_by tok n false good bad e found k g f h = absurd (cc)
 
+-- the value of the digits, and their number, as a token
+abbrev pub number_token : List ℕ → Tok
+number_token text =
+    let base = base_of text in
+    let digits = drop (base_mark base) text in
+    let n = run (is_digit_of base) digits in
+    t.Number (value_behind (radix base) 0 (take n digits)) base n
+
+-- all digits of its base that follow make the longest form, whatever their value
+pub digits_longest : (b : ℕ) (bs : List ℕ) → is_decimal b ≡ true → class_of b ≡ 1 → IsLongest (Some (number_token (b ∷ bs))) (extent (base_of (b ∷ bs)) (b ∷ bs)) (b ∷ bs)
+digits_longest b bs d c =
+    let text = b ∷ bs in
+    let base = base_of text in
+    let digits = drop (base_mark base) text in
+    let n = run (is_digit_of base) digits in
+    let all = bytes b bs d in
+    let count : n ≡ length (take n digits) = sym (taken digits n (run_within (is_digit_of base) digits)) in
+    let form : IsNumber (value_behind (radix base) 0 (take n digits)) base n (take (base_mark base + n) text) = (take n digits, all.0, run_passes (is_digit_of base) digits, count, all.1, refl) in
+    (all.2, omega (arith, all.1), form, number_no_longer b bs c)
+
 -- the number that is found is the longest form
 pub number_longest : (at b : ℕ) (bs : List ℕ) (found : Option Tok) (k : ℕ) → is_decimal b ≡ true → class_of b ≡ 1 → number at (b ∷ bs) ≡ Ok (found, k) → IsLongest found k (b ∷ bs)
 number_longest at b bs found k d c h =
@@ -199,11 +219,19 @@ number_longest at b bs found k d c h =
     let good : Result (Option Tok × ℕ) LexError = Ok (Some (t.Number value base n), base_mark base + n) in
     let bad : Result (Option Tok × ℕ) LexError = Err (NumberTooWide at) in
     let is = number_by (t.Number value base n) (base_mark base + n) (nat_lt value (2 ^ 128)) good bad (NumberTooWide at) found k refl refl h in
-    let all = bytes b bs d in
-    let count : n ≡ length (take n digits) = sym (taken digits n (run_within (is_digit_of base) digits)) in
-    let form : IsNumber value base n (take (base_mark base + n) text) = (take n digits, all.0, run_passes (is_digit_of base) digits, count, all.1, refl) in
-    let longest : IsLongest (Some (t.Number value base n)) (base_mark base + n) text = (all.2, omega (arith, all.1), form, number_no_longer b bs c) in
-    subst (λ z. IsLongest z k text) (sym is.0) (subst (λ z. IsLongest (Some (t.Number value base n)) z text) (sym is.1) longest)
+    subst (λ z. IsLongest z k text) (sym is.0) (subst (λ z. IsLongest (Some (t.Number value base n)) z text) (sym is.1) (digits_longest b bs d c))
+
+-- a number that fits is no error
+pub number_right : (at : ℕ) (text : List ℕ) (e : LexError) → Fits (Some (number_token text)) → number at text ≡ Err e → ⊥
+number_right at text e f h =
+    let base = base_of text in
+    let digits = drop (base_mark base) text in
+    let n = run (is_digit_of base) digits in
+    let value = value_behind (radix base) 0 (take n digits) in
+    let good : Result (Option Tok × ℕ) LexError = Ok (Some (t.Number value base n), base_mark base + n) in
+    let bad : Result (Option Tok × ℕ) LexError = Err (NumberTooWide at) in
+    let fits : nat_lt value (2 ^ 128) ≡ true = lt-ltb value (2 ^ 128) f in
+    let there : good ≡ Err e = subst (λ v. (if v then good else bad) ≡ Err e) fits h in cc
 
 -- the number that is found fits
 pub number_fits : (at : ℕ) (text : List ℕ) (found : Option Tok) (k : ℕ) → number at text ≡ Ok (found, k) → Fits found

@@ -1,3 +1,4 @@
+pub mod Characters
 pub mod Commented
 pub mod Cutting
 pub mod Digits
@@ -11,7 +12,12 @@ pub mod Namely
 pub mod Next
 pub mod Opened
 pub mod Quoted
+pub mod Reached
 pub mod Runs
+pub mod Same
+pub mod Sorts
 pub mod Spelled
+pub mod Stands
 pub mod Steps
 pub mod Values
+pub mod Wrong

@@ -143,7 +143,7 @@ class_longest b (d ∷ ds) h =
 
 -- ---- marks
 
-white_byte : (b : ℕ) (bs : List ℕ) → IsWhite (b ∷ bs) → is_white b ≡ true
+pub white_byte : (b : ℕ) (bs : List ℕ) → IsWhite (b ∷ bs) → is_white b ≡ true
 white_byte b [] w = w
 white_byte b (c ∷ bs) w = absurd w
 

@@ -76,7 +76,7 @@ read_more s a s' a' Ends n bytes x y h f = cc
 read_more s a s' a' Control n bytes x y h f = cc
 read_more s a s' a' NoEscape n bytes x y h f = cc
 
-literal_more : (quote s a s' a' skip : ℕ) (text : List ℕ) (k n : ℕ) (bytes : List ℕ) → literal quote s a skip (take k text) ≡ Ok (bytes, n) → literal quote s' a' skip text ≡ Ok (bytes, n)
+pub literal_more : (quote s a s' a' skip : ℕ) (text : List ℕ) (k n : ℕ) (bytes : List ℕ) → literal quote s a skip (take k text) ≡ Ok (bytes, n) → literal quote s' a' skip text ≡ Ok (bytes, n)
 literal_more quote s a s' a' skip [] zero n bytes e = cc
 literal_more quote s a s' a' skip [] (suc k) n bytes e = cc
 literal_more quote s a s' a' skip (b ∷ bs) zero n bytes e = cc
@@ -142,7 +142,7 @@ closes_by true y z h e = refl
 closes_by false y z h e = absurd (h e)
 
 -- a literal ends within its bytes, which alone decide it
-abbrev Whole : ℕ → ℕ → List ℕ → List ℕ → ℕ → Type 0
+abbrev pub Whole : ℕ → ℕ → List ℕ → List ℕ → ℕ → Type 0
 Whole quote skip text bytes n = (n ≤ length text) × (skip < n) × ((s a : ℕ) → literal quote s a skip (take n text) ≡ Ok (bytes, n))
 
 later_inside : (x : Read) (bytes : List ℕ) (n : ℕ) → later x ≡ Ok (bytes, n) → (m : ℕ) × (n ≡ suc m) × (x ≡ Ok (bytes, m))
@@ -171,7 +171,7 @@ escape_open [] e = cc
 escape_open (b ∷ bs) e = not_closes (b == 110) _ _ (λ z. (cc)) (not_closes (b == 116) _ _ (λ z. (cc)) (not_closes (b == 114) _ _ (λ z. (cc)) (not_closes (b == 92 || b == 34 || b == 39) _ _ (λ z. (cc))
     (not_closes (b == 120) _ _ (hexadecimal_open bs) (λ z. (cc)))))) e
 
-behind_open : (b : ℕ) (bs : List ℕ) → (if b == 10 then Ends else (if b == 92 then escape bs else (if is_control b then Control else Means b 1))) ≡ Closes → ⊥
+pub behind_open : (b : ℕ) (bs : List ℕ) → (if b == 10 then Ends else (if b == 92 then escape bs else (if is_control b then Control else Means b 1))) ≡ Closes → ⊥
 behind_open b bs e = not_closes (b == 10) _ _ (λ z. (cc)) (not_closes (b == 92) _ _ (escape_open bs) (not_closes (is_control b) _ _ (λ z. (cc)) (λ z. (cc)))) e
 
 element_closes : (quote b : ℕ) (bs : List ℕ) → element quote (b ∷ bs) ≡ Closes → element quote (b ∷ []) ≡ Closes
@@ -202,7 +202,7 @@ whole_at quote s a b bs bytes n Ends el rest h = cc
 whole_at quote s a b bs bytes n Control el rest h = cc
 whole_at quote s a b bs bytes n NoEscape el rest h = cc
 
-literal_whole : (quote s a skip : ℕ) (text bytes : List ℕ) (n : ℕ) → literal quote s a skip text ≡ Ok (bytes, n) → Whole quote skip text bytes n
+pub literal_whole : (quote s a skip : ℕ) (text bytes : List ℕ) (n : ℕ) → literal quote s a skip text ≡ Ok (bytes, n) → Whole quote skip text bytes n
 literal_whole quote s a skip [] bytes n h = cc
 literal_whole quote s a (suc skip) (b ∷ bs) bytes n h =
     let x = later_inside (literal quote s (a + 1) skip bs) bytes n h in
@@ -214,7 +214,7 @@ literal_whole quote s a zero (b ∷ bs) bytes n h =
 
 -- ---- a text
 
-at_quote : (b : ℕ) (bs : List ℕ) (c : ℕ) → class_of b ≡ c → c ≡ 3 → (q : Option Tok) (k : ℕ) → IsForm q (b ∷ take k bs) → Begins q c → (means : List ℕ) × (literal 34 0 1 0 (take k bs) ≡ Ok (means, length (take k bs)))
+pub at_quote : (b : ℕ) (bs : List ℕ) (c : ℕ) → class_of b ≡ c → c ≡ 3 → (q : Option Tok) (k : ℕ) → IsForm q (b ∷ take k bs) → Begins q c → (means : List ℕ) × (literal 34 0 1 0 (take k bs) ≡ Ok (means, length (take k bs)))
 at_quote b bs c s e None k f (inl g) = absurd (omega arith)
 at_quote b bs c s e None k f (inr g) = absurd (omega arith)
 at_quote b bs c s e (Some (t.Word w)) k f g = absurd (omega arith)
@@ -280,7 +280,7 @@ escape_some (b ∷ bs) v j e = let x = escape_two b bs v j e in omega arith
 one : (b v j : ℕ) → Means b 1 ≡ Means v j → 1 ≤ j
 one b v j e = let x : 1 ≡ j = cc in omega arith
 
-element_some : (quote : ℕ) (text : List ℕ) (v j : ℕ) → element quote text ≡ Means v j → 1 ≤ j
+pub element_some : (quote : ℕ) (text : List ℕ) (v j : ℕ) → element quote text ≡ Means v j → 1 ≤ j
 element_some quote [] v j e = cc
 element_some quote (b ∷ bs) v j e = some_by (b == quote) _ _ v j (λ z. (cc)) (some_by (b == 10) _ _ v j (λ z. (cc)) (some_by (b == 92) _ _ v j (escape_some bs v j) (some_by (is_control b) _ _ v j (λ z. (cc)) (one b v j)))) e
 

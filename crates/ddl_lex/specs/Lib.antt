@@ -8,6 +8,7 @@ pub mod Literals
 pub mod Marks
 pub mod Names
 pub mod Numbers
+pub mod Only
 pub mod Pieces
 pub mod Places
 pub mod Tokens

@@ -4,6 +4,7 @@
 mod blocks;
 mod comments;
 mod error;
+mod laws;
 mod letters;
 mod lexer;
 mod literal;
@@ -20,6 +21,7 @@ mod words;
 pub use blocks::layout;
 pub use ddl_token::{Base, Mark, Tok, Token, Word};
 pub use error::LexError;
+pub use laws::lex_law;
 pub use lexer::lex;
 
 #[cfg(test)]
