@@ -2,21 +2,39 @@
 #![tactic(auto)]
 
 mod classes;
+mod equations;
+mod tokens;
 
+use std::alloc::Global;
 use std::io::{Error, ErrorKind};
 use std::{env, fs, io};
 
+/// The height of a tower of types.
+fn solved(alloc: Global, twice: bool, height: u32) -> io::Result<u32> {
+    if height >= 1 << 24 {
+        return Err(Error::from(ErrorKind::InvalidInput));
+    }
+    match equations::one_tower(alloc, twice, height) {
+        Ok(height) => Ok(height),
+        Err(_) => Err(Error::from(ErrorKind::Other)),
+    }
+}
+
 fn main(rt: HostRuntime) -> io::Result<()> {
+    let alloc = rt.alloc();
     let mut words = env::args(&rt)?.skip(1);
-    let (Some(part), Some(file), Some(rounds)) = (words.next(), words.next(), words.next()) else {
+    let (Some(part), Some(file), Some(number)) = (words.next(), words.next(), words.next()) else {
         return Err(Error::from(ErrorKind::InvalidInput));
     };
-    let Ok(rounds) = rounds.as_str().parse::<u32>() else {
+    let Ok(number) = number.as_str().parse::<u32>() else {
         return Err(Error::from(ErrorKind::InvalidInput));
     };
     let text = fs::read(&rt, file.as_str())?;
     match part.as_str() {
-        "class" => println!(rt; "{}", classes::letters_before_a_stop(&text, rounds)),
+        "class" => println!(rt; "{}", classes::letters_before_a_stop(&text, number)),
+        "lex" => println!(rt; "{}", tokens::count(alloc, &text)?),
+        "chain" => println!(rt; "{}", solved(alloc, false, number)?),
+        "doublings" => println!(rt; "{}", solved(alloc, true, number)?),
         _ => Err(Error::from(ErrorKind::InvalidInput)),
     }
 }

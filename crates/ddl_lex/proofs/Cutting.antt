@@ -1,15 +1,14 @@
 -- A piece more is cut from the text.
-use Rattle.std.proofs.Common.{◌≡◌, ◌<◌, ◌≤◌, ◌≢◌, ◌==◌, ◌^◌, ℕ, zero, suc, ◌+◌, Bool, true, false, List, [], ◌∷◌, ◌++◌, length, drop, take, get_or, Option, Some, None, Result, Ok, Err, refl, subst, sym, ap, ◌∙◌, arith, length-append, length-drop, length-take, get_or-drop, if◌then◌else◌}
+use Rattle.std.proofs.Common.{◌≡◌, ◌<◌, ◌≤◌, ◌≢◌, ◌==◌, ◌^◌, ℕ, ◌+◌, true, List, [], ◌∷◌, ◌++◌, length, drop, take, get_or, Option, Some, None, Ok, refl, subst, sym, ap, ◌∙◌, arith, length-append, length-drop, if◌then◌else◌}
 use Rattle.std.proofs.Math.Seq.{take-add}
 use Rattle.std.proofs.lemmas.Bool.{eq-eqb}
-use Rattle.std.proofs.lemmas.List.{drop-drop}
 use Rattle.ddl_token.specs.declared.token.Tok.{Tok}
 use Rattle.ddl_token.specs.declared.token.Token.{Token}
 use Rattle.ddl_lex.specs.declared.place.Place.{Place}
-use Rattle.ddl_lex.specs.declared.error.LexError.{LexError}
 use Rattle.ddl_lex.specs.Pieces.{next_piece}
+use Rattle.ddl_lex.proofs.Next.{next_right}
 use Rattle.ddl_lex.specs.Places.{line_behind, column_behind, column_after, line_at, column_at}
-use Rattle.ddl_lex.specs.Tokens.{Cut, begin, more, is_full, stands, place_at, with_token}
+use Rattle.ddl_lex.specs.Tokens.{Cut, begin, more, is_full, place_at, with_token}
 
 -- nothing is cut yet
 pub cut_nothing : (text : List ℕ) (tokens : List Token) (at : ℕ) → tokens ≡ [] → at ≡ 0 → Cut text tokens at
@@ -37,27 +36,15 @@ few_more tokens place to (Some tok) h room =
     let different : length tokens ≢ 2 ^ 20 = λ e. (let f : Some tok ≡ None = room (eq-eqb (length tokens) (2 ^ 20) e) in cc) in
     simp length-append (omega arith)
 
-first_behind : (text : List ℕ) (at : ℕ) → get_or (drop at text) 0 0 ≡ get_or text at 0
-first_behind text zero = refl
-first_behind [] (suc at) = refl
-first_behind (b ∷ bs) (suc at) = first_behind bs at
-
--- what was found is what stands there
-pub found_there : (text rest : List ℕ) (full : Bool) (at first : ℕ) (r : Result (Option Tok × ℕ) LexError) → rest ≡ drop at text → 0 < length rest → first ≡ get_or rest 0 0 →
-    next_piece full at first rest ≡ r → next_piece full at (get_or text at 0) (drop at text) ≡ r
-found_there text rest full at first r e s f h =
-    let here : first ≡ get_or text at 0 = f ∙ ap (λ z. get_or z 0 0) e ∙ first_behind text at in
-    sym (ap (λ z. next_piece full at z rest) here ∙ ap (next_piece full at (get_or text at 0)) e) ∙ h
-
 -- one piece more
 pub cut_more : (text rest : List ℕ) (tokens next : List Token) (place : Place) (to first n : ℕ) (found : Option Tok) →
-    Cut text tokens place.at → rest ≡ drop place.at text → place.line ≡ line_at place.at text → place.column ≡ column_at place.at text →
+    Cut text tokens place.at → length tokens ≤ 2 ^ 20 → rest ≡ drop place.at text → place.line ≡ line_at place.at text → place.column ≡ column_at place.at text →
     0 < length rest → first ≡ get_or rest 0 0 → next_piece (is_full tokens) place.at first rest ≡ Ok (found, n) →
     to ≡ place.at + n → next ≡ with_token tokens place to found → Cut text next to
-cut_more text rest tokens next place to first n found cut left line column some first-is there to-is next-is =
+cut_more text rest tokens next place to first n found cut few left line column some first-is there to-is next-is =
     let same : place ≡ place_at text place.at = λ i. record { at = place.at; line = line i; column = column i } in
     let within : place.at < length text = omega (arith, ap length left, length-drop place.at text) in
-    let piece = more found n cut within (found_there text rest (is_full tokens) place.at first (Ok (found, n)) left some first-is there) in
+    let piece = more found n cut within (next_right text rest tokens place.at first found n few left some first-is there) in
     let tokens-are : next ≡ with_token tokens (place_at text place.at) (place.at + n) found =
-        next-is ∙ ap (λ p. with_token tokens p to found) same ∙ ap (λ t. with_token tokens (place_at text place.at) t found) to-is in
+    next-is ∙ ap (λ p. with_token tokens p to found) same ∙ ap (λ t. with_token tokens (place_at text place.at) t found) to-is in
     subst (λ t. Cut text next t) (sym to-is) (subst (λ ts. Cut text ts (place.at + n)) (sym tokens-are) piece)

@@ -2,9 +2,8 @@
 use Rattle.std.proofs.Common.{◌≡◌, ◌<◌, ◌≤◌, ℕ, zero, suc, ◌+◌, ◌-◌, List, [], ◌∷◌, ◌++◌, length, drop, Result, Ok, Err, refl, ap, sym, subst, length-drop, ◌∙◌, append_assoc, arith}
 use Rattle.std.proofs.lemmas.List.{drop-drop}
 use Rattle.ddl_lex.specs.declared.error.LexError.{LexError}
-use Rattle.ddl_lex.specs.declared.literal.Element.{Element}
-use Rattle.ddl_lex.specs.declared.literal.Element.TheVariants.{Means, Closes, Ends, Control, NoEscape}
-use Rattle.ddl_lex.specs.Literals.{literal, element, later, meaning, read, bytes_behind, Takes}
+use Rattle.ddl_lex.specs.declared.literal.Element.TheVariants.{Means}
+use Rattle.ddl_lex.specs.Literals.{literal, element, later, meaning, Takes}
 
 -- what is read behind these bytes, which n bytes of the text mean
 abbrev pub behind : List ℕ → ℕ → Result (List ℕ × ℕ) LexError → Result (List ℕ × ℕ) LexError

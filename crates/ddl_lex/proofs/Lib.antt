@@ -1,5 +1,17 @@
+pub mod Commented
 pub mod Cutting
+pub mod Digits
 pub mod Elements
+pub mod Firsts
+pub mod Lengths
+pub mod Longest
+pub mod Marked
 pub mod Named
+pub mod Namely
+pub mod Next
+pub mod Opened
+pub mod Quoted
+pub mod Runs
+pub mod Spelled
 pub mod Steps
 pub mod Values

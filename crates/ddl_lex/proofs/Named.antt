@@ -1,8 +1,8 @@
 -- A name with no sign behind it that makes it a word.
-use Rattle.std.proofs.Common.{◌≡◌, ℕ, ◌+◌, List, take, Option, Some, None, refl, ap, subst, sym, ◌∙◌}
+use Rattle.std.proofs.Common.{◌≡◌, ℕ, List, take, Some, None, ap, ◌∙◌}
 use Rattle.ddl_token.specs.declared.token.Tok.{Tok}
 use Rattle.ddl_lex.specs.Letters.{run, is_name}
-use Rattle.ddl_lex.specs.Names.{named, signed_word, word_or_name, word_of, longer_word}
+use Rattle.ddl_lex.specs.Names.{named, signed_word, word_or_name, word_of}
 
 pub no_sign : (n : ℕ) (text name : List ℕ) (tok : Tok) → n ≡ run is_name text → None ≡ signed_word n text → name ≡ take n text → tok ≡ word_or_name (word_of name) name → (Some tok, n) ≡ named (run is_name text) text
 no_sign n text name tok len e front t =

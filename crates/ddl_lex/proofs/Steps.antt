@@ -1,5 +1,5 @@
 -- What one step of a loop adds.
-use Rattle.std.proofs.Common.{◌≡◌, ℕ, suc, ◌+◌, Option, Some, None, refl, arith}
+use Rattle.std.proofs.Common.{◌≡◌, ℕ, ◌+◌, Option, Some, None, refl, arith}
 use Rattle.ddl_lex.specs.Comments.{one_more}
 
 -- n bytes more

@@ -23,5 +23,5 @@ comment zero before (b ∷ bs) =
     else one_more (comment (if opens before b then 1 else 0) (if opens before b then 0 else b) bs)
 comment (suc depth) before (b ∷ bs) =
     one_more (comment
-      (if opens before b then suc (suc depth) else (if ends before b then depth else suc depth))
-      (if opens before b || ends before b then 0 else b) bs)
+    (if opens before b then suc (suc depth) else (if ends before b then depth else suc depth))
+    (if opens before b || ends before b then 0 else b) bs)

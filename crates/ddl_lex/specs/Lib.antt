@@ -1,5 +1,8 @@
+pub mod Brackets
 pub mod Comments
+pub mod Forms
 pub mod Gives
+pub mod Layout
 pub mod Letters
 pub mod Literals
 pub mod Marks

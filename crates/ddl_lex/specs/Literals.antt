@@ -1,5 +1,5 @@
 -- The inside of texts and characters.
-use Rattle.std.specs.Prelude.{ℕ, zero, suc, ◌+◌, ◌-◌, ◌*◌, Bool, ◌&&◌, ◌||◌, ◌==◌, nat_lt, if◌then◌else◌, List, [], ◌∷◌, length, ◌<◌, ◌≤◌, slice_index, Option, Some, None, Result, Ok, Err}
+use Rattle.std.specs.Prelude.{ℕ, zero, suc, ◌+◌, ◌-◌, ◌*◌, Bool, ◌&&◌, ◌||◌, ◌==◌, nat_lt, if◌then◌else◌, List, [], ◌∷◌, length, ◌<◌, ◌≤◌, slice_index, Option, Some, Result, Ok, Err}
 use Rattle.ddl_token.specs.declared.token.Tok.{Tok}
 use Rattle.ddl_token.specs.declared.token.Tok.TheVariants.{Char}
 use Rattle.ddl_lex.specs.declared.error.LexError.{LexError}
@@ -79,13 +79,14 @@ literal quote start at zero (b ∷ bs) =
     let e = element quote (b ∷ bs) in
     read start at e (literal quote start (at + 1) (bytes_behind e) bs)
 
+-- a character of which this element is the first
+abbrev pub character_of : ℕ → List ℕ → Element → Result (Option Tok × ℕ) LexError
+character_of start inside (Means v n) = if slice_index inside n == 39 then Ok (Some (Char v), n + 2) else Err (OpenText start)
+character_of start inside Closes = Err (OpenText start)
+character_of start inside Ends = Err (OpenText start)
+character_of start inside Control = Err (BadByte (start + 1))
+character_of start inside NoEscape = Err (BadEscape (start + 1))
+
 -- the character whose quote stands at `start`: exactly one element, and the closing quote
 abbrev pub character : ℕ → List ℕ → Result (Option Tok × ℕ) LexError
-character start inside =
-    elim (element 39 inside) [
-      Means v n ↦ if slice_index inside n == 39 then Ok (Some (Char v), n + 2) else Err (OpenText start)
-    | Closes ↦ Err (OpenText start)
-    | Ends ↦ Err (OpenText start)
-    | Control ↦ Err (BadByte (start + 1))
-    | NoEscape ↦ Err (BadEscape (start + 1))
-    ]
+character start inside = character_of start inside (element 39 inside)

@@ -1,5 +1,5 @@
 -- The marks.
-use Rattle.std.specs.Prelude.{ℕ, nat_eq, if◌then◌else◌, List, [], ◌∷◌, length, Option, Some, None, Result, Ok, Err}
+use Rattle.std.specs.Prelude.{ℕ, nat_eq, if◌then◌else◌, List, [], ◌∷◌, Option, Some, None}
 use Rattle.std.specs.List.{starts_with}
 use Rattle.ddl_token.specs.declared.mark.Mark.{Mark}
 use Rattle.ddl_token.specs.declared.mark.Mark.TheVariants as m

@@ -1,11 +1,12 @@
 -- The tokens of a text.
-use Rattle.std.specs.Prelude.{◌≡◌, ◌<◌, ℕ, ◌+◌, ◌==◌, ◌^◌, Bool, List, [], ◌∷◌, ◌++◌, length, drop, slice_index, Option, Some, None, Result, Ok, Err}
+use Rattle.std.specs.Prelude.{◌≡◌, ◌<◌, ℕ, ◌+◌, ◌==◌, ◌^◌, Bool, true, List, [], ◌∷◌, ◌++◌, length, drop, slice_index, Option, Some, None, Result, Err}
 use Rattle.ddl_token.specs.declared.token.Tok.{Tok}
 use Rattle.ddl_token.specs.declared.token.Token.{Token}
 use Rattle.ddl_lex.specs.declared.error.LexError.{LexError}
 use Rattle.ddl_lex.specs.declared.error.LexError.TheVariants.{NoMemory}
 use Rattle.ddl_lex.specs.declared.place.Place.{Place}
-use Rattle.ddl_lex.specs.Pieces.{next_piece}
+use Rattle.ddl_lex.specs.Pieces.{next_piece, begins_with}
+use Rattle.ddl_lex.specs.Forms.{IsLongest, Fits}
 use Rattle.ddl_lex.specs.Places.{line_at, column_at}
 
 -- there are as many tokens as there may be: 2^20
@@ -25,11 +26,21 @@ abbrev pub with_token : List Token → Place → ℕ → Option Tok → List Tok
 with_token tokens place to None = tokens
 with_token tokens place to (Some tok) = tokens ++ record { kind = tok; line = place.line; col = place.column; «from» = place.at; to = to } ∷ []
 
--- The text up to a place is cut into white bytes, comments and these tokens.
+-- a token stands only where there are fewer than 2^20 before it
+abbrev pub HasRoom : List Token → Option Tok → Type 0
+HasRoom tokens None = Unit {0}
+HasRoom tokens (Some tok) = length tokens < 2 ^ 20
+
+-- What stands at a place behind these tokens: the longest form that begins there. Where `{-` opens a
+-- comment it is no token; a number's value fits; and there is room for a token.
+abbrev pub IsPiece : List ℕ → List Token → ℕ → Option Tok → ℕ → Type 0
+IsPiece text tokens at found n = IsLongest found n (drop at text) × (begins_with 123 45 (drop at text) ≡ true → found ≡ None) × Fits found × HasRoom tokens found
+
+-- The text up to a place is cut, front to back, into white bytes, comments and these tokens.
 pub data Cut : List ℕ → List Token → ℕ → Type 0 where
   begin : {text : List ℕ} → Cut text [] 0
   more : {text : List ℕ} {tokens : List Token} {at : ℕ} (found : Option Tok) (n : ℕ) → Cut text tokens at → at < length text →
-    stands text tokens at ≡ Ok (found, n) → Cut text (with_token tokens (place_at text at) (at + n) found) (at + n)
+      IsPiece text tokens at found n → Cut text (with_token tokens (place_at text at) (at + n) found) (at + n)
 
 -- the text has an error, behind all that is cut before it
 abbrev pub HasError : List ℕ → LexError → Type 0

@@ -12,12 +12,7 @@ use std::alloc::Global;
 const MOST_TOKENS: usize = 1 << 20;
 
 /// Keeps a token, if one was found, that stands from a place up to another.
-fn keep(
-    tokens: &mut Vec<Token>,
-    found: Option<Tok>,
-    place: Place,
-    to: u32,
-) -> Result<(), NoMemory>
+fn keep(tokens: &mut Vec<Token>, found: Option<Tok>, place: Place, to: u32) -> Result<(), NoMemory>
     ensures { OnOk result (tokens.new.items ≡ with_token tokens.old.items place to found) }
 {
     if let Some(kind) = found {

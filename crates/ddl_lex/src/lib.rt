@@ -1,6 +1,7 @@
 //! Tokens of a text by longest match, and the layout of their blocks.
 #![tactic(auto)]
 
+mod blocks;
 mod comments;
 mod error;
 mod letters;
@@ -12,8 +13,14 @@ mod names;
 mod numbers;
 mod pieces;
 mod place;
+mod roles;
+mod stack;
 mod words;
 
+pub use blocks::layout;
 pub use ddl_token::{Base, Mark, Tok, Token, Word};
 pub use error::LexError;
 pub use lexer::lex;
+
+#[cfg(test)]
+mod tests;

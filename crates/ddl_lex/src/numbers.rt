@@ -82,7 +82,12 @@ fn base_at(text: &[u8]) -> (Base, usize)
 }
 
 /// The number of these digits: `told` bytes before them tell its base.
-fn number_of(at: u32, base: Base, told: usize, digits: &[u8]) -> Result<(Option<Tok>, usize), LexError>
+fn number_of(
+    at: u32,
+    base: Base,
+    told: usize,
+    digits: &[u8],
+) -> Result<(Option<Tok>, usize), LexError>
     requires told { told ≡ numbers.base_mark base }
     requires size { length digits.now < 2 ^ 31 }
     ensures { result ≡ numbers.number_of at base (length digits.now) digits.now }

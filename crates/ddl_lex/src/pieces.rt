@@ -84,7 +84,12 @@ fn mark_token(text: &[u8], at: u32) -> Result<(Option<Tok>, usize), LexError>
 /// What stands at `at`, where the rest of the text begins with `first`: a token, or white space or a
 /// comment, and how many bytes it has.
 #[tactic(auto, unfolding(crate::specs::Pieces::piece))]
-fn piece_at(alloc: Global, first: u8, text: &[u8], at: u32) -> Result<(Option<Tok>, usize), LexError>
+fn piece_at(
+    alloc: Global,
+    first: u8,
+    text: &[u8],
+    at: u32,
+) -> Result<(Option<Tok>, usize), LexError>
     requires size { at + length text.now < 2 ^ 31 }
     requires first { slice_get text.now 0 ≡ Some first }
     ensures value { Gives (pieces.piece at first text.now) result }

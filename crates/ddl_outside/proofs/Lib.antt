@@ -1,5 +1,5 @@
-pub mod NamedLemmas
 pub mod FilesLemmas
-pub mod SinkLemmas
-pub mod MemFilesLemmas
 pub mod HostFilesLemmas
+pub mod MemFilesLemmas
+pub mod NamedLemmas
+pub mod SinkLemmas

@@ -1,10 +1,10 @@
 pub mod Counts
-pub mod Named
 pub mod Files
-pub mod Sink
 pub mod Filling
-pub mod Writing
+pub mod HostFiles
 pub mod MemFiles
 pub mod MemSink
-pub mod HostFiles
+pub mod Named
+pub mod Sink
 pub mod Told
+pub mod Writing

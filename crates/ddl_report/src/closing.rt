@@ -225,7 +225,7 @@ fn closing_value(alloc: Global, closing: &Closing) -> Result<Value, NoMemory>
     }
 }
 
-/// The line that ends a run, as its bytes with the newline.
+/// The line that ends a run, as its bytes with the newline. A failure has a text exactly where its cause is `Said`.
 #[tactic(auto, using(crate::proofs::LineLemmas::line_lemmas))]
 pub fn closing_line(alloc: Global, closing: &Closing) -> Result<Vec<u8>, NoMemory>
     requires { HasItsText closing.now }

@@ -10,3 +10,6 @@ mod values;
 
 pub use closing::{Closing, closing_line};
 pub use line::{line_of_bytes, line_of_parse};
+
+#[cfg(test)]
+mod tests;

@@ -55,7 +55,8 @@ pub fn line_of_bytes(alloc: Global, end: u64, value: &[u8]) -> Result<Vec<u8>, N
     line_of(alloc, &parse)
 }
 
-/// The line of a parse: its value, and the offset in bytes at which it ends, in the input or in an array.
+/// The line of a parse: its value, and the offset in bytes at which it ends, in the input or in an array. In the value
+/// the two lists of each record and of each map have one length.
 #[tactic(auto, using(crate::proofs::LineLemmas::line_lemmas))]
 pub fn line_of_parse(
     alloc: Global,

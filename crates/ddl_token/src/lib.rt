@@ -8,3 +8,6 @@ mod word;
 pub use mark::Mark;
 pub use token::{Base, Tok, Token};
 pub use word::Word;
+
+#[cfg(test)]
+mod tests;

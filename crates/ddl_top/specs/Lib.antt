@@ -1,5 +1,5 @@
+pub mod Form
+pub mod Reading
+pub mod Run
 pub mod Status
 pub mod Words
-pub mod Form
-pub mod Run
-pub mod Reading

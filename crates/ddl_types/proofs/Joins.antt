@@ -1,7 +1,9 @@
 -- The laws of joining.
 use Rattle.std.proofs.Common.{◌≡◌, ◌+◌, List, [], ◌∷◌, ◌++◌, map, length, refl, ap, ◌∙◌, sym, arith}
 use Rattle.ddl_types.specs.Value.{Value, Stream}
-use Rattle.ddl_types.specs.Outcome.{Event, Tick, Miss, Parse, Outcome, Parsed, End, Faulted, Deep, Stuck, ends, tick, miss, parse, parsed, nothing_more, events, ending, ticks, parses, after}
+use Rattle.ddl_types.specs.Outcome.{Event, Tick, Miss, Parse, Outcome, Parsed, End, Faulted, Deep, Stuck, ends, tick, miss, parse, parsed, nothing_more, events, ending, ticks, parses, failures, unticked, after}
+use Rattle.ddl_types.specs.BestFailure.{best_failure, best_of}
+use Rattle.ddl_types.specs.Answer.{answer_of, answer_at}
 use Rattle.ddl_types.specs.Joining.{Both, Biased, Bind, Joined, leave}
 
 -- ---- Both
@@ -169,3 +171,48 @@ leave_both (ends Stuck) p = refl
 leave_both (tick o) p = ap tick (leave_both o p)
 leave_both (miss w i a f o) p = ap (miss w i a f) (leave_both o p)
 leave_both (parse v s o) p = ap (λ q. tick (parse v s q)) (leave_both o p)
+
+-- ---- without ticks
+
+pub unticked_both : (o p : Outcome) → unticked (Both o p) ≡ Both (unticked o) (unticked p)
+unticked_both (ends End) p = refl
+unticked_both (ends (Faulted fault span)) p = refl
+unticked_both (ends Deep) p = refl
+unticked_both (ends Stuck) p = refl
+unticked_both (tick o) p = unticked_both o p
+unticked_both (miss w i a f o) p = ap (miss w i a f) (unticked_both o p)
+unticked_both (parse v s o) p = ap (parse v s) (unticked_both o p)
+
+pub unticked_bind : (o : Outcome) (k : Value → Stream → Outcome) → unticked (Bind o k) ≡ Bind (unticked o) (λ v s. unticked (k v s))
+unticked_bind (ends e) k = refl
+unticked_bind (tick o) k = unticked_bind o k
+unticked_bind (miss w i a f o) k = ap (miss w i a f) (unticked_bind o k)
+unticked_bind (parse v s o) k = unticked_both (k v s) (Bind o k) ∙ ap (Both (unticked (k v s))) (unticked_bind o k)
+
+pub unticked_leave : (o : Outcome) → unticked (leave o) ≡ unticked o
+unticked_leave (ends e) = refl
+unticked_leave (tick o) = unticked_leave o
+unticked_leave (miss w i a f o) = ap (miss w i a f) (unticked_leave o)
+unticked_leave (parse v s o) = ap (parse v s) (unticked_leave o)
+
+ending_unticked : (o : Outcome) → ending (unticked o) ≡ ending o
+ending_unticked (ends e) = refl
+ending_unticked (tick o) = ending_unticked o
+ending_unticked (miss w i a f o) = ending_unticked o
+ending_unticked (parse v s o) = ending_unticked o
+
+parses_unticked : (o : Outcome) → parses (unticked o) ≡ parses o
+parses_unticked (ends e) = refl
+parses_unticked (tick o) = parses_unticked o
+parses_unticked (miss w i a f o) = parses_unticked o
+parses_unticked (parse v s o) = ap (λ ps. record { value = v; rest = s } ∷ ps) (parses_unticked o)
+
+failures_unticked : (o : Outcome) → failures (unticked o) ≡ failures o
+failures_unticked (ends e) = refl
+failures_unticked (tick o) = failures_unticked o
+failures_unticked (miss w i a f o) = ap (λ fs. record { why = w; source = i; at = a; span = f } ∷ fs) (failures_unticked o)
+failures_unticked (parse v s o) = failures_unticked o
+
+-- ticks have no part in the answer
+pub answer_unticked : (o : Outcome) → answer_of (unticked o) ≡ answer_of o
+answer_unticked o = ap (λ e. answer_at e (parses (unticked o)) (best_failure (unticked o))) (ending_unticked o) ∙ ap (λ ps. answer_at (ending o) ps (best_failure (unticked o))) (parses_unticked o) ∙ ap (λ fs. answer_at (ending o) (parses o) (best_of fs)) (failures_unticked o)

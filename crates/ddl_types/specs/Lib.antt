@@ -5,6 +5,8 @@ pub mod Conditions
 pub mod Cut
 pub mod Growth
 pub mod Joining
+pub mod Keeping
+pub mod Layout
 pub mod Num
 pub mod Outcome
 pub mod Plain

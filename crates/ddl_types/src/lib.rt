@@ -3,6 +3,7 @@
 
 mod cond;
 mod fault;
+mod laws;
 mod num;
 mod plain;
 mod scheme;
@@ -11,6 +12,7 @@ mod ty;
 
 pub use cond::Cond;
 pub use fault::Fault;
+pub use laws::keeping_law;
 pub use num::{Num, NumType};
 pub use plain::Plain;
 pub use scheme::{Instance, Scheme};

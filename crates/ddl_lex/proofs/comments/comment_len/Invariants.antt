@@ -1,4 +1,4 @@
-use Rattle.std.proofs.Common.{◌≡◌, ◌≤◌, ◌+◌, ◌-◌, length, drop}
+use Rattle.std.proofs.Common.{◌≡◌, ◌≤◌, ◌-◌, length, drop}
 use Rattle.ddl_lex.specs.Comments.{comment}
 use Rattle.ddl_lex.proofs.Steps.{plus}
 use Rattle.ddl_lex.proofs.comments.comment_len.Given as goal

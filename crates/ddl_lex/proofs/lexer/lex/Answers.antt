@@ -1,4 +1,4 @@
-use Rattle.std.proofs.Common.{◌≡◌, ◌≤◌, ◌+◌, ◌^◌, length, take, drop, ap, ◌∙◌, ◌==◌, sym, arith, length-drop, subst, Ok, rules}
+use Rattle.std.proofs.Common.{◌≡◌, ◌+◌, ◌^◌, length, take, drop, ap, ◌∙◌, ◌==◌, sym, arith, length-drop, subst, Ok, rules}
 use Rattle.std.proofs.lemmas.List.{drop-drop}
 use Rattle.ddl_lex.specs.Pieces.{next_piece}
 use Rattle.ddl_lex.specs.Tokens.{is_full, with_token}
@@ -26,14 +26,14 @@ loop-first-preserved c =
     let to : c.behind-end.result.at ≡ at + n = c.behind-end.ensures.at ∙ ap (λ k. at + k) c.split_at.ensures.front_len in
     let piece : c.split_at.result.0.now ≡ take n (drop at text) = c.split_at.ensures.front ∙ ap (take n) known.left in
     let full : (c.len-full.result == 2 ^ 20) ≡ is_full c.loop-first.tokens.items =
-        let len : c.len-full.result ≡ length c.loop-first.tokens.items = search rules in
-        ap (λ k. k == 2 ^ 20) len in
+    let len : c.len-full.result ≡ length c.loop-first.tokens.items = search rules in
+    ap (λ k. k == 2 ^ 20) len in
     let there : next_piece (is_full c.loop-first.tokens.items) at c.in-Some.first.now c.loop-first.rest.now ≡ Ok (c.in_ok-found.found, n) =
-        subst (λ b. next_piece b at c.in-Some.first.now c.loop-first.rest.now ≡ Ok (c.in_ok-found.found, n)) full c.in_ok-found.ensures.value in
+    subst (λ b. next_piece b at c.in-Some.first.now c.loop-first.rest.now ≡ Ok (c.in_ok-found.found, n)) full c.in_ok-found.ensures.value in
     let kept : c.keep.new.tokens.items ≡ with_token c.loop-first.tokens.items c.loop-first.place c.behind-end.result.at c.in_ok-found.found = c.in_ok-keep.ensures in
     record {
       cut = cut_more text c.loop-first.rest.now c.loop-first.tokens.items c.keep.new.tokens.items c.loop-first.place c.behind-end.result.at c.in-Some.first.now n c.in_ok-found.found
-        known.cut known.left known.lines known.columns c.in-Some.ensures.item.3.0 (c.in-Some.ensures.item.3.1 0) there to kept;
+          known.cut known.few known.left known.lines known.columns c.in-Some.ensures.item.3.0 (c.in-Some.ensures.item.3.1 0) there to kept;
       few = rw kept (few_more c.loop-first.tokens.items c.loop-first.place c.behind-end.result.at c.in_ok-found.found known.few (λ h. c.in_ok-found.ensures.room (full ∙ h)));
       left = c.split_at.ensures.back ∙ ap (drop n) known.left ∙ drop-drop n at text ∙ ap (λ k. drop k text) (sym to);
       within = omega (arith, to, c.in_ok-found.ensures.within, ap length known.left, length-drop at text);

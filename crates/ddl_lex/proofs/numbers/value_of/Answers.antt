@@ -1,4 +1,4 @@
-use Rattle.std.proofs.Common.{◌≡◌, ◌<◌, ◌≤◌, ◌+◌, ◌*◌, refl, arith}
+use Rattle.std.proofs.Common.{refl}
 use Rattle.ddl_lex.proofs.Values.{too_wide}
 use Rattle.ddl_lex.proofs.numbers.value_of.Goals as goal
 

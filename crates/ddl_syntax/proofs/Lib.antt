@@ -1,0 +1,24 @@
+mod Examples
+pub mod Before
+pub mod Classes
+pub mod Complete
+pub mod CompleteStates
+pub mod Exact
+pub mod Fine
+pub mod FineDecls
+pub mod FineExprs
+pub mod FineLists
+pub mod FineParts
+pub mod FineTypes
+pub mod Fits
+pub mod Levels
+pub mod ReadsBindings
+pub mod ReadsCalls
+pub mod ReadsDecl
+pub mod ReadsExpr
+pub mod ReadsForms
+pub mod ReadsItems
+pub mod ReadsLists
+pub mod ReadsModule
+pub mod Tokens
+pub mod Types

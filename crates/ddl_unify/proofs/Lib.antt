@@ -1,0 +1,13 @@
+pub mod Deref
+pub mod Equating
+pub mod Going
+pub mod Keeping
+pub mod Marking
+pub mod Opening
+pub mod Parts
+pub mod ReadingLemmas
+pub mod Refusing
+pub mod Steps
+pub mod Stored
+pub mod Sub
+pub mod Undoing

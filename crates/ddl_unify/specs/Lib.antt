@@ -1,0 +1,10 @@
+pub mod Bindings
+pub mod Equations
+pub mod Heads
+pub mod Kept
+pub mod Measures
+pub mod Occurs
+pub mod Refused
+pub mod Solving
+pub mod State
+pub mod View

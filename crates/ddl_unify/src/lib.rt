@@ -1,0 +1,15 @@
+//! A solver of equations between types.
+#![tactic(auto)]
+
+mod heads;
+mod occurs;
+mod reading;
+mod refusal;
+#[cfg(test)]
+mod rows;
+mod solver;
+mod solving;
+mod store;
+
+pub use refusal::EquateError;
+pub use solver::Solver;
