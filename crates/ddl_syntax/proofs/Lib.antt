@@ -3,6 +3,13 @@ pub mod Before
 pub mod Classes
 pub mod Complete
 pub mod CompleteStates
+pub mod Deep
+pub mod DeepDecls
+pub mod DeepExprs
+pub mod DeepLists
+pub mod DeepParts
+pub mod DeepSteps
+pub mod DeepTypes
 pub mod Exact
 pub mod Fine
 pub mod FineDecls
