@@ -19,6 +19,7 @@ pub mod FineParts
 pub mod FineTypes
 pub mod Fits
 pub mod Levels
+pub mod PlacedDepth
 pub mod ReadsBindings
 pub mod ReadsCalls
 pub mod ReadsDecl
