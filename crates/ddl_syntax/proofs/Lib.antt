@@ -3,6 +3,13 @@ pub mod Before
 pub mod Classes
 pub mod Complete
 pub mod CompleteStates
+pub mod Deep
+pub mod DeepDecls
+pub mod DeepExprs
+pub mod DeepLists
+pub mod DeepParts
+pub mod DeepSteps
+pub mod DeepTypes
 pub mod Exact
 pub mod Fine
 pub mod FineDecls
@@ -12,6 +19,7 @@ pub mod FineParts
 pub mod FineTypes
 pub mod Fits
 pub mod Levels
+pub mod PlacedDepth
 pub mod ReadsBindings
 pub mod ReadsCalls
 pub mod ReadsDecl

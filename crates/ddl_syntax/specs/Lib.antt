@@ -1,4 +1,5 @@
 pub mod Answers
+pub mod Depths
 pub mod Frames
 pub mod Step
 pub mod StepClass
