@@ -1,6 +1,8 @@
 -- The numbers that are kept with what has been read say how deep it is.
 use Rattle.std.proofs.Common.{◌≡◌, ℕ, ◌+◌, ◌≤◌, max, Bool, true, false, cond, List, [], ◌∷◌, ◌++◌, Option, Some, None, refl, arith}
 use Rattle.ddl_base.specs.declared.span.Span.{Span}
+use Rattle.ddl_tree.specs.TypeTree as ty
+use Rattle.ddl_tree.specs.ClassTree as cls
 use Rattle.ddl_tree.specs.ExprTree as ex
 use Rattle.ddl_tree.specs.ModuleTree as mo
 use Rattle.ddl_tree.specs.View.{exprs_of, bindings_of, items_of, alts_of}
@@ -142,6 +144,20 @@ paren_least s _ n = omega arith
 pub need_least : (fs : List Frame) → need_expr fs ≤ 1
 need_least (frame.in_array s [] n ∷ fs) = omega arith
 need_least _ = omega arith
+
+-- ---- no form is of depth 0
+
+pub type_some : (t : ty.TypeExpr) → 1 ≤ type_depth t
+type_some (ty.Maybe t s) = omega arith
+type_some _ = omega arith
+
+pub class_some : (c : cls.Cls) → 1 ≤ class_depth c
+class_some (cls.Union a b s) = omega arith
+class_some _ = omega arith
+
+pub expr_some : (a : ex.Expr) → 1 ≤ depth a
+expr_some (ex.Infix o a b s) = omega arith
+expr_some _ = omega arith
 
 -- ---- lists
 

@@ -154,23 +154,23 @@ extend_deep x s c fs d h = apply_deep x s c.expr c.deep fs d h
 
 -- ---- the last part of a form
 
--- the form is as deep as its number, and the module no shallower
+-- the form is as deep as its number, and the module stays as deep
 pub record ClosesDeep (f : Frame) (a u : Found) (fs : List Frame) : Type 0 where
   pub tree : IsDeep u
-  pub around : around_in f fs a.deep ≤ u.deep
+  pub around : around_in f fs a.deep ≡ u.deep
 
 pub closes_deep : (f : Frame) (a : Found) (fs : List Frame) → IsDeepFrame f → IsDeep a → IfSome (closes f a) (λ u. ClosesDeep f a u fs)
-closes_deep (frame.in_infix o c) a fs h i = record { tree = omega arith; around = omega arith }
-closes_deep (frame.in_pure s) a fs h i = record { tree = omega arith; around = omega arith }
-closes_deep (frame.in_else s c b) a fs h i = let x = h.0 in let y = h.1 in record { tree = omega arith; around = omega arith }
-closes_deep (frame.in_for_body s x j ns b) a fs h i = let p = h.0 in let q = h.1 in record { tree = omega arith; around = omega arith }
-closes_deep (frame.in_map_body s ns b) a fs h i = record { tree = omega arith; around = omega arith }
-closes_deep (frame.in_prefix o s) a fs h i = record { tree = omega arith; around = omega arith }
-closes_deep (frame.in_call_grammar x xs n) a fs h i = record { tree = omega (arith, exprs_deep xs a.expr); around = omega arith }
-closes_deep (frame.in_call_value x xs n) a fs h i = record { tree = omega (arith, exprs_deep xs a.expr); around = omega arith }
-closes_deep (frame.in_just s) a fs h i = record { tree = omega arith; around = omega arith }
-closes_deep (frame.in_many o b n) a fs h i = record { tree = omega arith; around = omega arith }
-closes_deep (frame.in_optional o) a fs h i = record { tree = omega arith; around = omega arith }
+closes_deep (frame.in_infix o c) a fs h i = record { tree = omega arith; around = refl }
+closes_deep (frame.in_pure s) a fs h i = record { tree = omega arith; around = refl }
+closes_deep (frame.in_else s c b) a fs h i = let x = h.0 in let y = h.1 in record { tree = omega arith; around = refl }
+closes_deep (frame.in_for_body s x j ns b) a fs h i = let p = h.0 in let q = h.1 in record { tree = omega arith; around = refl }
+closes_deep (frame.in_map_body s ns b) a fs h i = record { tree = omega arith; around = refl }
+closes_deep (frame.in_prefix o s) a fs h i = record { tree = omega arith; around = refl }
+closes_deep (frame.in_call_grammar x xs n) a fs h i = record { tree = omega (arith, exprs_deep xs a.expr); around = refl }
+closes_deep (frame.in_call_value x xs n) a fs h i = record { tree = omega (arith, exprs_deep xs a.expr); around = refl }
+closes_deep (frame.in_just s) a fs h i = record { tree = omega arith; around = refl }
+closes_deep (frame.in_many o b n) a fs h i = record { tree = omega arith; around = refl }
+closes_deep (frame.in_optional o) a fs h i = record { tree = omega arith; around = refl }
 closes_deep _ a fs h i = tt
 
 -- another argument

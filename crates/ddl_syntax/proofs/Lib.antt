@@ -30,3 +30,4 @@ pub mod ReadsLists
 pub mod ReadsModule
 pub mod Tokens
 pub mod Types
+pub mod Within
