@@ -24,9 +24,9 @@ use Rattle.ddl_syntax.specs.StepExpr.{closes}
 use Rattle.ddl_syntax.specs.StepParts.{after_paren, after_array, after_field, after_tagged}
 use Rattle.ddl_syntax.specs.StepLists.{after_item, after_untagged, after_with_tags, after_alt}
 use Rattle.ddl_syntax.specs.StepDecl.{with_decl, close_body}
-use Rattle.ddl_syntax.specs.Depths.{around_in, low, lowest}
+use Rattle.ddl_syntax.specs.Depths.{around_in, low}
 use Rattle.ddl_syntax.proofs.Before.{read}
-use Rattle.ddl_syntax.proofs.Deep.{IsDeep, AreDeep, IsDeepFocus, Goes, Deeps, low_grows, expr_some}
+use Rattle.ddl_syntax.proofs.Deep.{IsDeep, AreDeep, low_grows, expr_some}
 use Rattle.ddl_syntax.proofs.DeepExprs.{ClosesDeep, closes_deep}
 use Rattle.ddl_syntax.proofs.DeepParts.{after_paren_deep, after_array_deep, after_field_deep, after_tagged_deep}
 use Rattle.ddl_syntax.proofs.DeepLists.{after_item_deep, after_untagged_deep, after_with_tags_deep, after_alt_deep}
@@ -106,7 +106,6 @@ found_in (Some _) a = a
 
 pub complete_expr : (fs : List Frame) (a : Found) → AreFrames fs → IsFocus fs (frame.have a) → AreDeep fs → IsDeep a → Completion fs a.deep (print a.expr)
 complete_expr [] a h i d e = let w = i.1 in absurd (omega arith)
-
 complete_expr (frame.in_infix o c ∷ fs) a h i d e = let u = unwrap_or (closes (frame.in_infix o c) a) a in closing (frame.in_infix o c) fs a u h (closes_fine (frame.in_infix o c) a h.0 i.0 i.2) (closes_deep (frame.in_infix o c) a fs d.0 e) (λ i e. complete_expr fs u h.4 i d.1 e)
 complete_expr (frame.in_pure s ∷ fs) a h i d e = let u = unwrap_or (closes (frame.in_pure s) a) a in closing (frame.in_pure s) fs a u h (closes_fine (frame.in_pure s) a h.0 i.0 i.2) (closes_deep (frame.in_pure s) a fs d.0 e) (λ i e. complete_expr fs u h.4 i d.1 e)
 complete_expr (frame.in_else s c b ∷ fs) a h i d e = let u = unwrap_or (closes (frame.in_else s c b) a) a in closing (frame.in_else s c b) fs a u h (closes_fine (frame.in_else s c b) a h.0 i.0 i.2) (closes_deep (frame.in_else s c b) a fs d.0 e) (λ i e. complete_expr fs u h.4 i d.1 e)

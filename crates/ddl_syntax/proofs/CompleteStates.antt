@@ -23,7 +23,7 @@ use Rattle.ddl_tree.specs.ExprTree as ex
 use Rattle.ddl_tree.specs.ExprTree.{expr_span}
 use Rattle.ddl_tree.specs.ModuleTree as mo
 use Rattle.ddl_tree.specs.ModuleTree.{bits_span}
-use Rattle.ddl_tree.specs.Depth.{type_depth, class_depth, bits_depth, decl_depth}
+use Rattle.ddl_tree.specs.Depth.{class_depth, bits_depth, decl_depth}
 use Rattle.ddl_tree.specs.Print.{print_type, print_class, print}
 use Rattle.ddl_tree.specs.PrintModule.{print_bits, print_decl}
 use Rattle.ddl_tree.specs.Grammar.{class_level, IsClass}

@@ -1,5 +1,5 @@
 -- The numbers that are kept with what has been read say how deep it is.
-use Rattle.std.proofs.Common.{◌≡◌, ℕ, ◌+◌, ◌≤◌, max, Bool, true, false, cond, List, [], ◌∷◌, ◌++◌, Option, Some, None, refl, arith}
+use Rattle.std.proofs.Common.{◌≡◌, ℕ, ◌+◌, ◌≤◌, max, Bool, true, false, cond, List, [], ◌∷◌, ◌++◌, Option, Some, None, arith}
 use Rattle.ddl_base.specs.declared.span.Span.{Span}
 use Rattle.ddl_tree.specs.TypeTree as ty
 use Rattle.ddl_tree.specs.ClassTree as cls
@@ -9,7 +9,7 @@ use Rattle.ddl_tree.specs.View.{exprs_of, bindings_of, items_of, alts_of}
 use Rattle.ddl_tree.specs.Depth.{type_depth, typed_depth, class_depth, depth, bound_depth, item_depth, exprs_depth, bindings_depth, items_depth, alts_depth, param_depth, params_depth, part_depth, parts_depth, bits_depth, cons_depth, decl_depth, decls_depth}
 use Rattle.ddl_syntax.specs.Frames.{Frame, Focus, State, Found, FoundType, FoundClass, Head, Layout, Parted, Loop, Cases}
 use Rattle.ddl_syntax.specs.Frames as frame
-use Rattle.ddl_syntax.specs.Depths.{around, around_in, low, need_expr, need, lowest}
+use Rattle.ddl_syntax.specs.Depths.{around, around_in, low, need_expr, lowest}
 
 -- ---- what is so of each form that is open
 

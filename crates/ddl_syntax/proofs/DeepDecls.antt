@@ -1,5 +1,5 @@
 -- Each token of an import or a declaration keeps the depths, and makes no module shallower.
-use Rattle.std.proofs.Common.{◌≡◌, ℕ, ◌+◌, ◌≤◌, max, List, [], ◌∷◌, ◌++◌, Option, Some, None, refl, arith}
+use Rattle.std.proofs.Common.{◌≡◌, ℕ, ◌+◌, ◌≤◌, max, List, [], ◌∷◌, Option, Some, refl, arith}
 use Rattle.ddl_base.specs.declared.span.Span.{Span}
 use Rattle.ddl_token.specs.declared.token.Base.{Base}
 use Rattle.ddl_token.specs.declared.token.Base.TheVariants.{Decimal, Hexadecimal, Binary}
@@ -14,7 +14,7 @@ use Rattle.ddl_tree.specs.ClassTree.{class_span}
 use Rattle.ddl_tree.specs.ExprTree.{expr_span}
 use Rattle.ddl_tree.specs.ModuleTree as mo
 use Rattle.ddl_tree.specs.ModuleTree.{bits_span}
-use Rattle.ddl_tree.specs.Depth.{type_depth, typed_depth, class_depth, depth, param_depth, part_depth, bits_depth, cons_depth, decl_depth}
+use Rattle.ddl_tree.specs.Depth.{type_depth, typed_depth, class_depth, param_depth, part_depth, bits_depth, cons_depth, decl_depth}
 use Rattle.ddl_syntax.specs.Frames.{Frame, State, Found, FoundType, FoundClass, Head, Sort, Layout, Parted, PartStart}
 use Rattle.ddl_syntax.specs.Frames as frame
 use Rattle.ddl_syntax.specs.StepType.{joined, number_at}

@@ -1,5 +1,5 @@
 -- Each token of an expression keeps the depths, and makes no module shallower: the first, and those that go on with it.
-use Rattle.std.proofs.Common.{◌≡◌, ℕ, ◌+◌, ◌≤◌, max, nat_le, List, [], ◌∷◌, ◌++◌, Option, Some, None, IfSome, option_and_then, refl, arith}
+use Rattle.std.proofs.Common.{◌≡◌, ℕ, ◌+◌, ◌≤◌, max, nat_le, List, [], ◌∷◌, ◌++◌, Some, IfSome, option_and_then, refl, arith}
 use Rattle.ddl_base.specs.declared.span.Span.{Span}
 use Rattle.ddl_token.specs.declared.token.Tok.{Tok}
 use Rattle.ddl_token.specs.declared.token.Tok.TheVariants as k
@@ -10,12 +10,11 @@ use Rattle.ddl_token.specs.declared.mark.Mark.TheVariants as m
 use Rattle.ddl_tree.specs.declared.operator.InfixOp.{InfixOp}
 use Rattle.ddl_tree.specs.declared.operator.InfixOp.TheVariants as op
 use Rattle.ddl_tree.specs.ExprTree as ex
-use Rattle.ddl_tree.specs.View.{exprs_of}
 use Rattle.ddl_tree.specs.Grammar.{left_level, level}
 use Rattle.ddl_tree.specs.Depth.{depth}
 use Rattle.ddl_syntax.specs.Frames.{Frame, State, Found}
 use Rattle.ddl_syntax.specs.Frames as frame
-use Rattle.ddl_syntax.specs.StepType.{joined, found, number_at}
+use Rattle.ddl_syntax.specs.StepType.{found, number_at}
 use Rattle.ddl_syntax.specs.StepExpr.{least, name_at, if_within, begin_result, begin_let, close_array, begin_high, close_low, begin_word, begin_mark, begin, apply, if_above, infix_with, extend_word, extend_mark, extend, with_argument, closes}
 use Rattle.ddl_syntax.specs.Depths.{around_in, low, need_expr}
 use Rattle.ddl_syntax.proofs.Deep.{IsDeep, IsDeepFrame, AreDeep, Goes, Deeps, weaken, tested_deep, low_grows, paren_most, need_least, exprs_deep}

@@ -1,5 +1,5 @@
 -- Each token keeps the depths, and makes no module shallower.
-use Rattle.std.proofs.Common.{◌≡◌, ℕ, ◌+◌, ◌≤◌, true, false, cond, nat_le, nat_eq, List, [], ◌∷◌, Option, Some, None, IfSome, refl, ◌∙◌, arith}
+use Rattle.std.proofs.Common.{◌≡◌, true, false, cond, nat_le, nat_eq, List, [], ◌∷◌, Option, Some, None, IfSome, refl, arith}
 use Rattle.ddl_base.specs.declared.span.Span.{Span}
 use Rattle.ddl_token.specs.declared.token.Tok.{Tok}
 use Rattle.ddl_token.specs.declared.token.Tok.TheVariants as k

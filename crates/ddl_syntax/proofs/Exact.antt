@@ -21,7 +21,7 @@ use Rattle.ddl_syntax.specs.StepDecl.{close_body, close_class_body}
 use Rattle.ddl_syntax.specs.StepExpr.{closes}
 use Rattle.ddl_syntax.specs.Answers.{Begins, Unexpected}
 use Rattle.ddl_syntax.specs.Step.{step_at, whole, finish_class, finish_class_at, finished, finish_body, finish_have, finish, goes, run, begun, parsed, reach, kinds, places, IsStuck}
-use Rattle.ddl_syntax.specs.Depths.{need, lowest}
+use Rattle.ddl_syntax.specs.Depths.{lowest}
 use Rattle.ddl_syntax.proofs.Before.{read, here, text}
 use Rattle.ddl_syntax.proofs.Tokens.{seen}
 use Rattle.ddl_syntax.proofs.Fits.{wanted, AreFrames, IsFocus, Steps}

@@ -1,13 +1,11 @@
 -- How deep the modules are that the machine reads, and where it passes a depth.
-use Rattle.std.proofs.Common.{◌≡◌, ℕ, ◌≤◌, ◌<◌, List, [], ◌∷◌, ◌++◌, Option, Some, None, IfSome, option_and_then, refl, sym, ap, ◌∙◌, arith, subst, append_assoc}
-use Rattle.ddl_token.specs.declared.token.Tok.{Tok}
+use Rattle.std.proofs.Common.{◌≡◌, ℕ, ◌≤◌, ◌<◌, List, [], ◌∷◌, ◌++◌, Option, Some, None, IfSome, option_and_then, refl, sym, ap, ◌∙◌, arith, subst}
 use Rattle.ddl_tree.specs.declared.name.ByteLit.{ByteLit}
 use Rattle.ddl_tree.specs.ClassTree as cls
 use Rattle.ddl_tree.specs.ClassTree.{class_span}
 use Rattle.ddl_tree.specs.ModuleTree as mo
 use Rattle.ddl_tree.specs.Depth.{class_depth, module_depth}
 use Rattle.ddl_tree.specs.PrintModule.{print_module}
-use Rattle.ddl_tree.specs.GrammarModule.{IsModule}
 use Rattle.ddl_tree.specs.Spans.{nowhere}
 use Rattle.ddl_tree.specs.SpansModule.{placed}
 use Rattle.ddl_syntax.specs.Frames.{Seen, Frame, Focus, State, Found, FoundClass}
@@ -16,13 +14,13 @@ use Rattle.ddl_syntax.specs.StepClass.{class_done}
 use Rattle.ddl_syntax.specs.StepDecl.{close_body, close_class_body}
 use Rattle.ddl_syntax.specs.StepExpr.{closes}
 use Rattle.ddl_syntax.specs.Answers.{Begins, BeginsWithin, TooNested}
-use Rattle.ddl_syntax.specs.Depths.{around_in, low, need, lowest}
+use Rattle.ddl_syntax.specs.Depths.{low, need, lowest}
 use Rattle.ddl_syntax.specs.Step.{step_at, whole, finish_class, finish_class_at, finished, finish_body, finish_have, finish, goes, run, begun, reach, kinds, places}
 use Rattle.ddl_syntax.proofs.Tokens.{seen}
 use Rattle.ddl_syntax.proofs.Fits.{wanted, AreFrames, IsFocus, Steps}
 use Rattle.ddl_syntax.proofs.Fine.{step_fine}
 use Rattle.ddl_syntax.proofs.FineTypes.{class_done_fine}
-use Rattle.ddl_syntax.proofs.Deep.{IsDeep, AreDeep, IsDeepFocus, Deeps, low_grows}
+use Rattle.ddl_syntax.proofs.Deep.{IsDeep, AreDeep, IsDeepFocus, Deeps}
 use Rattle.ddl_syntax.proofs.DeepTypes.{class_done_deep, class_done_least}
 use Rattle.ddl_syntax.proofs.DeepExprs.{ClosesDeep, closes_deep}
 use Rattle.ddl_syntax.proofs.DeepDecls.{close_body_deep, class_body_deep}
