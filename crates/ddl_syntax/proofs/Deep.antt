@@ -1,13 +1,15 @@
 -- The numbers that are kept with what has been read say how deep it is.
-use Rattle.std.proofs.Common.{◌≡◌, ℕ, ◌+◌, ◌≤◌, max, Bool, true, false, cond, List, [], ◌∷◌, ◌++◌, Option, Some, None, refl, arith}
+use Rattle.std.proofs.Common.{◌≡◌, ℕ, ◌+◌, ◌≤◌, max, Bool, true, false, cond, List, [], ◌∷◌, ◌++◌, Option, Some, None, arith}
 use Rattle.ddl_base.specs.declared.span.Span.{Span}
+use Rattle.ddl_tree.specs.TypeTree as ty
+use Rattle.ddl_tree.specs.ClassTree as cls
 use Rattle.ddl_tree.specs.ExprTree as ex
 use Rattle.ddl_tree.specs.ModuleTree as mo
 use Rattle.ddl_tree.specs.View.{exprs_of, bindings_of, items_of, alts_of}
 use Rattle.ddl_tree.specs.Depth.{type_depth, typed_depth, class_depth, depth, bound_depth, item_depth, exprs_depth, bindings_depth, items_depth, alts_depth, param_depth, params_depth, part_depth, parts_depth, bits_depth, cons_depth, decl_depth, decls_depth}
 use Rattle.ddl_syntax.specs.Frames.{Frame, Focus, State, Found, FoundType, FoundClass, Head, Layout, Parted, Loop, Cases}
 use Rattle.ddl_syntax.specs.Frames as frame
-use Rattle.ddl_syntax.specs.Depths.{around, around_in, low, need_expr, need, lowest}
+use Rattle.ddl_syntax.specs.Depths.{around, around_in, low, need_expr, lowest}
 
 -- ---- what is so of each form that is open
 
@@ -142,6 +144,20 @@ paren_least s _ n = omega arith
 pub need_least : (fs : List Frame) → need_expr fs ≤ 1
 need_least (frame.in_array s [] n ∷ fs) = omega arith
 need_least _ = omega arith
+
+-- ---- no form is of depth 0
+
+pub type_some : (t : ty.TypeExpr) → 1 ≤ type_depth t
+type_some (ty.Maybe t s) = omega arith
+type_some _ = omega arith
+
+pub class_some : (c : cls.Cls) → 1 ≤ class_depth c
+class_some (cls.Union a b s) = omega arith
+class_some _ = omega arith
+
+pub expr_some : (a : ex.Expr) → 1 ≤ depth a
+expr_some (ex.Infix o a b s) = omega arith
+expr_some _ = omega arith
 
 -- ---- lists
 

@@ -1,5 +1,5 @@
 -- Each token of an import or a declaration keeps the depths, and makes no module shallower.
-use Rattle.std.proofs.Common.{◌≡◌, ℕ, ◌+◌, ◌≤◌, max, List, [], ◌∷◌, ◌++◌, Option, Some, None, refl, arith}
+use Rattle.std.proofs.Common.{◌≡◌, ℕ, ◌+◌, ◌≤◌, max, List, [], ◌∷◌, Option, Some, refl, arith}
 use Rattle.ddl_base.specs.declared.span.Span.{Span}
 use Rattle.ddl_token.specs.declared.token.Base.{Base}
 use Rattle.ddl_token.specs.declared.token.Base.TheVariants.{Decimal, Hexadecimal, Binary}
@@ -14,13 +14,13 @@ use Rattle.ddl_tree.specs.ClassTree.{class_span}
 use Rattle.ddl_tree.specs.ExprTree.{expr_span}
 use Rattle.ddl_tree.specs.ModuleTree as mo
 use Rattle.ddl_tree.specs.ModuleTree.{bits_span}
-use Rattle.ddl_tree.specs.Depth.{type_depth, typed_depth, class_depth, depth, param_depth, part_depth, bits_depth, cons_depth, decl_depth}
+use Rattle.ddl_tree.specs.Depth.{type_depth, typed_depth, class_depth, param_depth, part_depth, bits_depth, cons_depth, decl_depth}
 use Rattle.ddl_syntax.specs.Frames.{Frame, State, Found, FoundType, FoundClass, Head, Sort, Layout, Parted, PartStart}
 use Rattle.ddl_syntax.specs.Frames as frame
 use Rattle.ddl_syntax.specs.StepType.{joined, number_at}
 use Rattle.ddl_syntax.specs.StepExpr.{name_at}
 use Rattle.ddl_syntax.specs.StepDecl.{with_decl, with_import, begin_decl, begin_import, import_name, decl_name, with_param, param_with, param_name, param_colon_with, typed_param, after_param_type, after_result, decl_of, close_body, class_equals_with, close_class_body, after_class_body, bits_name, after_bits_name_with, open_cons_with, con_name, con_equals_with, con_of, bits_done, after_con_with, bit_pattern, bits_with, with_part, part_with, part_colon_with, part_of, after_part_with}
-use Rattle.ddl_syntax.specs.Depths.{layout_deep, low}
+use Rattle.ddl_syntax.specs.Depths.{layout_deep, low, lowest}
 use Rattle.ddl_syntax.proofs.Fits.{wanted}
 use Rattle.ddl_syntax.proofs.Deep.{IsDeep, IsDeepHead, IsDeepLayout, IsDeepParted, AreDeep, Goes, Deeps, weaken, low_grows, params_deep, parts_deep, cons_deep, decls_deep}
 
@@ -30,6 +30,7 @@ use Rattle.ddl_syntax.proofs.Deep.{IsDeep, IsDeepHead, IsDeepLayout, IsDeepParte
 pub record Declares (n : ℕ) (before after : List Frame) : Type 0 where
   pub frames : AreDeep after
   pub most : low before n ≤ low after 0
+  pub least : low after 0 ≤ low before n
 
 pub with_decl_deep : (d : mo.Decl) (n : ℕ) (fs : List Frame) → AreDeep fs → wanted fs ≡ 4 → n ≡ decl_depth d → Declares n fs (with_decl d n fs)
 with_decl_deep d n [] h w e = absurd (omega arith)
@@ -38,6 +39,7 @@ with_decl_deep d n (frame.in_module a m ∷ fs) h w e =
     record {
       frames = (omega (arith, decls_deep a.decls d), h.1);
       most = low_grows fs (max m n) (max (max m n) 0) (omega arith);
+      least = low_grows fs (max (max m n) 0) (max m n) (omega arith);
     }
 with_decl_deep d n (_ ∷ fs) h w e = absurd (omega arith)
 
@@ -45,6 +47,11 @@ with_import_deep : (i : Import) (fs : List Frame) → AreDeep fs → Goes (low f
 with_import_deep i [] d = (d, tt, omega arith)
 with_import_deep i (frame.in_module a m ∷ fs) d = ((d.0, d.1), tt, omega arith)
 with_import_deep i (_ ∷ fs) d = (d, tt, omega arith)
+
+pub import_least : (i : Import) (fs : List Frame) → low (with_import i fs) 0 ≤ low fs 0
+import_least i [] = omega arith
+import_least i (frame.in_module a m ∷ fs) = omega arith
+import_least i (_ ∷ fs) = omega arith
 
 pub begin_decl_deep : (x : Tok) (s : Span) (fs : List Frame) → AreDeep fs → Deeps (low fs 0) (begin_decl x s fs)
 begin_decl_deep (k.Word w.Def) s fs d = (d, tt, low_grows fs 0 1 (omega arith))
@@ -168,6 +175,15 @@ bits_done_deep (frame.of_decl from y) b n fs d w i e =
     let same = low_grows fs (max 0 n) n (omega arith) in
     (c.frames, tt, omega arith)
 bits_done_deep (frame.of_con from y cs z a) b n fs d w i e = (d, omega (arith, cons_deep cs (con_of z b)), omega arith)
+
+-- and no deeper
+pub bits_done_least : (l : Layout) (b : mo.Bits) (n : ℕ) (fs : List Frame) → AreDeep fs → wanted fs ≡ 4 → n ≡ bits_depth b → lowest (bits_done l b n fs) ≤ low fs (max (layout_deep l) n)
+bits_done_least (frame.of_decl from y) b n fs d w e =
+    let c = with_decl_deep (mo.BitsDef y b (joined from (bits_span b))) n fs d w e in
+    let least = c.least in
+    let same = low_grows fs n (max 0 n) (omega arith) in
+    omega arith
+bits_done_least (frame.of_con from y cs z a) b n fs d w e = omega arith
 
 pub after_con_deep : (x : Tok) (s from : Span) (y : Name) (cs : List mo.Con) (n : ℕ) (fs : List Frame) → AreDeep fs → wanted fs ≡ 4 → n ≡ cons_depth cs → Deeps (low fs n) (after_con_with x s from y cs n fs)
 after_con_deep (k.Mark m.Semicolon) s from y cs n fs d w h = (d, h, omega arith)

@@ -1,5 +1,5 @@
 -- Each token of an expression keeps the depths, and makes no module shallower: the first, and those that go on with it.
-use Rattle.std.proofs.Common.{◌≡◌, ℕ, ◌+◌, ◌≤◌, max, nat_le, List, [], ◌∷◌, ◌++◌, Option, Some, None, IfSome, option_and_then, refl, arith}
+use Rattle.std.proofs.Common.{◌≡◌, ℕ, ◌+◌, ◌≤◌, max, nat_le, List, [], ◌∷◌, ◌++◌, Some, IfSome, option_and_then, refl, arith}
 use Rattle.ddl_base.specs.declared.span.Span.{Span}
 use Rattle.ddl_token.specs.declared.token.Tok.{Tok}
 use Rattle.ddl_token.specs.declared.token.Tok.TheVariants as k
@@ -10,12 +10,11 @@ use Rattle.ddl_token.specs.declared.mark.Mark.TheVariants as m
 use Rattle.ddl_tree.specs.declared.operator.InfixOp.{InfixOp}
 use Rattle.ddl_tree.specs.declared.operator.InfixOp.TheVariants as op
 use Rattle.ddl_tree.specs.ExprTree as ex
-use Rattle.ddl_tree.specs.View.{exprs_of}
 use Rattle.ddl_tree.specs.Grammar.{left_level, level}
 use Rattle.ddl_tree.specs.Depth.{depth}
 use Rattle.ddl_syntax.specs.Frames.{Frame, State, Found}
 use Rattle.ddl_syntax.specs.Frames as frame
-use Rattle.ddl_syntax.specs.StepType.{joined, found, number_at}
+use Rattle.ddl_syntax.specs.StepType.{found, number_at}
 use Rattle.ddl_syntax.specs.StepExpr.{least, name_at, if_within, begin_result, begin_let, close_array, begin_high, close_low, begin_word, begin_mark, begin, apply, if_above, infix_with, extend_word, extend_mark, extend, with_argument, closes}
 use Rattle.ddl_syntax.specs.Depths.{around_in, low, need_expr}
 use Rattle.ddl_syntax.proofs.Deep.{IsDeep, IsDeepFrame, AreDeep, Goes, Deeps, weaken, tested_deep, low_grows, paren_most, need_least, exprs_deep}
@@ -154,23 +153,23 @@ extend_deep x s c fs d h = apply_deep x s c.expr c.deep fs d h
 
 -- ---- the last part of a form
 
--- the form is as deep as its number, and the module no shallower
+-- the form is as deep as its number, and the module stays as deep
 pub record ClosesDeep (f : Frame) (a u : Found) (fs : List Frame) : Type 0 where
   pub tree : IsDeep u
-  pub around : around_in f fs a.deep ≤ u.deep
+  pub around : around_in f fs a.deep ≡ u.deep
 
 pub closes_deep : (f : Frame) (a : Found) (fs : List Frame) → IsDeepFrame f → IsDeep a → IfSome (closes f a) (λ u. ClosesDeep f a u fs)
-closes_deep (frame.in_infix o c) a fs h i = record { tree = omega arith; around = omega arith }
-closes_deep (frame.in_pure s) a fs h i = record { tree = omega arith; around = omega arith }
-closes_deep (frame.in_else s c b) a fs h i = let x = h.0 in let y = h.1 in record { tree = omega arith; around = omega arith }
-closes_deep (frame.in_for_body s x j ns b) a fs h i = let p = h.0 in let q = h.1 in record { tree = omega arith; around = omega arith }
-closes_deep (frame.in_map_body s ns b) a fs h i = record { tree = omega arith; around = omega arith }
-closes_deep (frame.in_prefix o s) a fs h i = record { tree = omega arith; around = omega arith }
-closes_deep (frame.in_call_grammar x xs n) a fs h i = record { tree = omega (arith, exprs_deep xs a.expr); around = omega arith }
-closes_deep (frame.in_call_value x xs n) a fs h i = record { tree = omega (arith, exprs_deep xs a.expr); around = omega arith }
-closes_deep (frame.in_just s) a fs h i = record { tree = omega arith; around = omega arith }
-closes_deep (frame.in_many o b n) a fs h i = record { tree = omega arith; around = omega arith }
-closes_deep (frame.in_optional o) a fs h i = record { tree = omega arith; around = omega arith }
+closes_deep (frame.in_infix o c) a fs h i = record { tree = omega arith; around = refl }
+closes_deep (frame.in_pure s) a fs h i = record { tree = omega arith; around = refl }
+closes_deep (frame.in_else s c b) a fs h i = let x = h.0 in let y = h.1 in record { tree = omega arith; around = refl }
+closes_deep (frame.in_for_body s x j ns b) a fs h i = let p = h.0 in let q = h.1 in record { tree = omega arith; around = refl }
+closes_deep (frame.in_map_body s ns b) a fs h i = record { tree = omega arith; around = refl }
+closes_deep (frame.in_prefix o s) a fs h i = record { tree = omega arith; around = refl }
+closes_deep (frame.in_call_grammar x xs n) a fs h i = record { tree = omega (arith, exprs_deep xs a.expr); around = refl }
+closes_deep (frame.in_call_value x xs n) a fs h i = record { tree = omega (arith, exprs_deep xs a.expr); around = refl }
+closes_deep (frame.in_just s) a fs h i = record { tree = omega arith; around = refl }
+closes_deep (frame.in_many o b n) a fs h i = record { tree = omega arith; around = refl }
+closes_deep (frame.in_optional o) a fs h i = record { tree = omega arith; around = refl }
 closes_deep _ a fs h i = tt
 
 -- another argument

@@ -1,5 +1,5 @@
 -- Each token between the parts of an expression keeps the depths, and makes no module shallower.
-use Rattle.std.proofs.Common.{◌≡◌, ℕ, ◌+◌, ◌≤◌, max, List, [], ◌∷◌, ◌++◌, Option, Some, None, refl, arith}
+use Rattle.std.proofs.Common.{◌≡◌, ℕ, ◌+◌, max, List, [], ◌∷◌, ◌++◌, refl, arith}
 use Rattle.ddl_base.specs.declared.span.Span.{Span}
 use Rattle.ddl_token.specs.declared.token.Tok.{Tok}
 use Rattle.ddl_token.specs.declared.token.Tok.TheVariants as k
@@ -17,7 +17,7 @@ use Rattle.ddl_syntax.specs.Frames as frame
 use Rattle.ddl_syntax.specs.StepExpr.{name_at}
 use Rattle.ddl_syntax.specs.StepParts.{bound_low, after_paren, after_paren_type, after_high, after_between, after_condition, after_then, after_start, after_for_list, after_map_list, open_for_with, for_name_with, for_equals_with, open_map_with, one_name, loop_list, first_name, after_first_name, second_name, in_with, shaped, shape_with, field_with, after_set, after_array, bound_to, first_field, next_field, record_equals_with, after_field, tag_name_with, after_tag_with, after_tagged}
 use Rattle.ddl_syntax.specs.Depths.{around_in, low, loop_need, need_expr}
-use Rattle.ddl_syntax.proofs.Deep.{IsDeep, AreDeep, IsDeepLoop, Goes, Deeps, low_grows, paren_least, need_least, exprs_deep, bindings_deep}
+use Rattle.ddl_syntax.proofs.Deep.{IsDeep, AreDeep, IsDeepLoop, Goes, Deeps, low_grows, paren_least, exprs_deep, bindings_deep}
 
 -- ---- parentheses and the bounds of `Many`
 

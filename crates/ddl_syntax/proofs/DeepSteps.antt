@@ -1,5 +1,5 @@
 -- Each token keeps the depths, and makes no module shallower.
-use Rattle.std.proofs.Common.{◌≡◌, ℕ, ◌+◌, ◌≤◌, true, false, cond, nat_le, nat_eq, List, [], ◌∷◌, Option, Some, None, IfSome, refl, ◌∙◌, arith}
+use Rattle.std.proofs.Common.{◌≡◌, true, false, cond, nat_le, nat_eq, List, [], ◌∷◌, Option, Some, None, IfSome, refl, arith}
 use Rattle.ddl_base.specs.declared.span.Span.{Span}
 use Rattle.ddl_token.specs.declared.token.Tok.{Tok}
 use Rattle.ddl_token.specs.declared.token.Tok.TheVariants as k
@@ -80,7 +80,7 @@ passes_deep _ x s a fs h d i = tt
 closed_deep : (f : Frame) (fs : List Frame) (a : Found) (o : Option Found) (on : Found → Option State) (other : Option State) → IfSome o (λ u. ClosesDeep f a u fs)
     → ((u : Found) → ClosesDeep f a u fs → Deeps (low fs u.deep) (on u)) → Deeps (low (f ∷ fs) a.deep) other → Deeps (low (f ∷ fs) a.deep) (closed o on other)
 closed_deep f fs a None on other h go stay = stay
-closed_deep f fs a (Some u) on other h go stay = weaken (low (f ∷ fs) a.deep) (low fs u.deep) (on u) (low_grows fs (around_in f fs a.deep) u.deep h.around) (go u h)
+closed_deep f fs a (Some u) on other h go stay = let e = h.around in weaken (low (f ∷ fs) a.deep) (low fs u.deep) (on u) (low_grows fs (around_in f fs a.deep) u.deep (omega arith)) (go u h)
 
 step_have_deep : (fs : List Frame) (a : Found) (x : Tok) (s : Span) → AreFrames fs → AreDeep fs → IsDeep a → Deeps (low fs a.deep) (step_have fs a x s)
 step_have_deep [] a x s h d i =

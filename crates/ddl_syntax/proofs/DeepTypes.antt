@@ -17,7 +17,7 @@ use Rattle.ddl_syntax.specs.Frames.{Frame, FoundType, FoundClass, State}
 use Rattle.ddl_syntax.specs.Frames as frame
 use Rattle.ddl_syntax.specs.StepType.{joined, type_done, type_word, begin_type, width_uint, width_sint, close_empty, after_element, after_map_value, after_within, number_at}
 use Rattle.ddl_syntax.specs.StepClass.{class_done, begin_class, last_byte, after_grouped, after_class_set}
-use Rattle.ddl_syntax.specs.Depths.{low}
+use Rattle.ddl_syntax.specs.Depths.{low, lowest}
 use Rattle.ddl_syntax.proofs.Deep.{AreDeep, Goes, Deeps, low_grows}
 
 -- ---- types
@@ -85,6 +85,13 @@ class_done_deep [] c n d e = (d, e, omega arith)
 class_done_deep (frame.in_other s ∷ fs) c n d e = class_done_deep fs (cls.Other c (joined s (class_span c))) (1 + n) d.1 (omega arith)
 class_done_deep (frame.in_union a ∷ fs) c n d e = let h = d.0 in (d.1, omega arith, omega arith)
 class_done_deep (_ ∷ fs) c n d e = (d, e, omega arith)
+
+-- and no deeper
+pub class_done_least : (fs : List Frame) (c : cls.Cls) (n : ℕ) → lowest (class_done fs c n) ≤ low fs n
+class_done_least [] c n = omega arith
+class_done_least (frame.in_other s ∷ fs) c n = class_done_least fs (cls.Other c (joined s (class_span c))) (1 + n)
+class_done_least (frame.in_union a ∷ fs) c n = omega arith
+class_done_least (_ ∷ fs) c n = omega arith
 
 pub begin_class_deep : (x : Tok) (s : Span) (fs : List Frame) → AreDeep fs → Deeps (low fs 1) (begin_class x s fs)
 begin_class_deep (k.Number v b n) s fs d = (d, tt, omega arith)

@@ -21,6 +21,7 @@ use Rattle.ddl_syntax.specs.StepDecl.{close_body, close_class_body}
 use Rattle.ddl_syntax.specs.StepExpr.{closes}
 use Rattle.ddl_syntax.specs.Answers.{Begins, Unexpected}
 use Rattle.ddl_syntax.specs.Step.{step_at, whole, finish_class, finish_class_at, finished, finish_body, finish_have, finish, goes, run, begun, parsed, reach, kinds, places, IsStuck}
+use Rattle.ddl_syntax.specs.Depths.{lowest}
 use Rattle.ddl_syntax.proofs.Before.{read, here, text}
 use Rattle.ddl_syntax.proofs.Tokens.{seen}
 use Rattle.ddl_syntax.proofs.Fits.{wanted, AreFrames, IsFocus, Steps}
@@ -28,6 +29,8 @@ use Rattle.ddl_syntax.proofs.FineTypes.{class_done_fine}
 use Rattle.ddl_syntax.proofs.FineExprs.{Closes, closes_fine}
 use Rattle.ddl_syntax.proofs.FineDecls.{close_body_fine, class_body_fine}
 use Rattle.ddl_syntax.proofs.Fine.{step_fine}
+use Rattle.ddl_syntax.proofs.Deep.{AreDeep, IsDeepFocus, Deeps}
+use Rattle.ddl_syntax.proofs.DeepSteps.{step_deep}
 use Rattle.ddl_syntax.proofs.CompleteStates.{complete}
 use Rattle.ddl_syntax.proofs.ReadsModule.{reads_module}
 
@@ -38,7 +41,7 @@ record Ends (a : mo.Module) (xs : List Tok) : Type 0 where
   tree : IsModule a
   text : print_module a ≡ xs
 
-some_one : (a b : mo.Module) → Some a ≡ Some b → a ≡ b
+pub some_one : (a b : mo.Module) → Some a ≡ Some b → a ≡ b
 some_one a b e = cc
 
 whole_ends : (fs : List Frame) (a : mo.Module) → AreFrames fs → whole fs ≡ Some a → Ends a (read fs [])
@@ -104,11 +107,14 @@ sound : (xs : List Seen) (z : State) (a : mo.Module) → AreFrames z.0 → IsFoc
 sound [] z a h i e = ends_well z.1 z.0 a h i e
 sound (x ∷ xs) z a h i e = sound_step x xs z a (step_at z.1 z.0 x.kind x.at) (step_fine z.1 z.0 x.kind x.at h i) (λ y h i e. sound xs y a h i e) e
 
-begun_frames : AreFrames begun.0
+pub begun_frames : AreFrames begun.0
 begun_frames = (tt, refl, omega arith, tt, tt)
 
-begun_focus : IsFocus begun.0 begun.1
+pub begun_focus : IsFocus begun.0 begun.1
 begun_focus = (refl, refl)
+
+pub begun_deep : AreDeep begun.0
+begun_deep = (refl, tt)
 
 seen_again : (xs : List Seen) (s : Span) → seen (kinds xs) (record { last = s; rest = places xs }) ≡ xs
 seen_again [] s = refl
@@ -129,49 +135,59 @@ reads_modules xs a e =
 
 -- ---- where it stops
 
-record Reached (xs : List Seen) (z y : State) : Type 0 where
-  frames : AreFrames y.0
-  focus : IsFocus y.0 y.1
-  text : (r : List Tok) → read y.0 (here y.1 r) ≡ read z.0 (here z.1 (kinds xs ++ r))
+pub record Reached (xs : List Seen) (z y : State) : Type 0 where
+  pub frames : AreFrames y.0
+  pub focus : IsFocus y.0 y.1
+  pub deep : AreDeep y.0
+  pub deep_focus : IsDeepFocus y.1
+  pub text : (r : List Tok) → read y.0 (here y.1 r) ≡ read z.0 (here z.1 (kinds xs ++ r))
 
-reached_step : (x : Seen) (xs : List Seen) (z y : State) (o : Option State) → Steps z.0 z.1 x.kind o
-    → ((v : State) → AreFrames v.0 → IsFocus v.0 v.1 → reach xs v ≡ Some y → Reached xs v y) → option_and_then (reach xs) o ≡ Some y → Reached (x ∷ xs) z y
-reached_step x xs z y None s go e = cc
-reached_step x xs z y (Some v) s go e = let w = go v s.1 s.2 e in record { frames = w.frames; focus = w.focus; text = λ r. w.text r ∙ s.0 (kinds xs ++ r) }
+reached_step : (x : Seen) (xs : List Seen) (z y : State) (o : Option State) → Steps z.0 z.1 x.kind o → Deeps (lowest z) o
+    → ((v : State) → AreFrames v.0 → IsFocus v.0 v.1 → AreDeep v.0 → IsDeepFocus v.1 → reach xs v ≡ Some y → Reached xs v y) → option_and_then (reach xs) o ≡ Some y → Reached (x ∷ xs) z y
+reached_step x xs z y None s d go e = cc
+reached_step x xs z y (Some v) s d go e =
+    let w = go v s.1 s.2 d.0 d.1 e in
+    record { frames = w.frames; focus = w.focus; deep = w.deep; deep_focus = w.deep_focus; text = λ r. w.text r ∙ s.0 (kinds xs ++ r) }
 
-some_state : (z y : State) → Some z ≡ Some y → z ≡ y
+pub some_state : (z y : State) → Some z ≡ Some y → z ≡ y
 some_state z y e = cc
 
-reached : (xs : List Seen) (z y : State) → AreFrames z.0 → IsFocus z.0 z.1 → reach xs z ≡ Some y → Reached xs z y
-reached [] z y h i e =
+reached : (xs : List Seen) (z y : State) → AreFrames z.0 → IsFocus z.0 z.1 → AreDeep z.0 → IsDeepFocus z.1 → reach xs z ≡ Some y → Reached xs z y
+reached [] z y h i d g e =
     let same = some_state z y e in
     record {
       frames = subst (λ y. AreFrames y.0) same h;
       focus = subst (λ y. IsFocus y.0 y.1) same i;
+      deep = subst (λ y. AreDeep y.0) same d;
+      deep_focus = subst (λ y. IsDeepFocus y.1) same g;
       text = λ r. ap (λ y. read y.0 (here y.1 r)) (sym same);
     }
-reached (x ∷ xs) z y h i e = reached_step x xs z y (step_at z.1 z.0 x.kind x.at) (step_fine z.1 z.0 x.kind x.at h i) (λ v h i e. reached xs v y h i e) e
+reached (x ∷ xs) z y h i d g e =
+    reached_step x xs z y (step_at z.1 z.0 x.kind x.at) (step_fine z.1 z.0 x.kind x.at h i) (step_deep z.1 z.0 x.kind x.at h i d g) (λ v h i d g e. reached xs v y h i d g e) e
+
+pub reached_begun : (used : List Seen) (y : State) → reach used begun ≡ Some y → Reached used begun y
+reached_begun used y e = reached used begun y begun_frames begun_focus begun_deep tt e
 
 -- tokens that the machine takes are the first of a module
 pub begins_at : (used : List Seen) (y : State) → reach used begun ≡ Some y → Begins (kinds used)
 begins_at used y e =
-    let w = reached used begun y begun_frames begun_focus e in
-    let c = complete y.1 y.0 w.frames w.focus in
+    let w = reached_begun used y e in
+    let c = complete y.1 y.0 w.frames w.focus w.deep w.deep_focus in
     (c.0, c.1, c.2, c.3 ∙ w.text c.1)
 
 run_reach_step : (x : Seen) (xs more : List Seen) (y : State) (o : Option State) → ((v : State) → reach xs v ≡ Some y → run (xs ++ more) v ≡ run more y) → option_and_then (reach xs) o ≡ Some y → goes (run (xs ++ more)) o ≡ run more y
 run_reach_step x xs more y None go e = cc
 run_reach_step x xs more y (Some v) go e = go v e
 
-run_reach : (xs more : List Seen) (z y : State) → reach xs z ≡ Some y → run (xs ++ more) z ≡ run more y
+pub run_reach : (xs more : List Seen) (z y : State) → reach xs z ≡ Some y → run (xs ++ more) z ≡ run more y
 run_reach [] more z y e = ap (run more) (some_state z y e)
 run_reach (x ∷ xs) more z y e = run_reach_step x xs more y (step_at z.1 z.0 x.kind x.at) (λ v e. run_reach xs more v y e) e
 
-kinds_more : (xs ys : List Seen) → kinds (xs ++ ys) ≡ kinds xs ++ kinds ys
+pub kinds_more : (xs ys : List Seen) → kinds (xs ++ ys) ≡ kinds xs ++ kinds ys
 kinds_more [] ys = refl
 kinds_more (x ∷ xs) ys = ap (λ ks. x.kind ∷ ks) (kinds_more xs ys)
 
-kinds_seen : (ks : List Tok) (p : Places) → kinds (seen ks p) ≡ ks
+pub kinds_seen : (ks : List Tok) (p : Places) → kinds (seen ks p) ≡ ks
 kinds_seen [] p = refl
 kinds_seen (x ∷ ks) p = ap (λ ks. x ∷ ks) (kinds_seen ks (after p))
 

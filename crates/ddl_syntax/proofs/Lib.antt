@@ -18,6 +18,7 @@ pub mod FineLists
 pub mod FineParts
 pub mod FineTypes
 pub mod Fits
+pub mod Flat
 pub mod Levels
 pub mod PlacedDepth
 pub mod ReadsBindings
@@ -30,3 +31,4 @@ pub mod ReadsLists
 pub mod ReadsModule
 pub mod Tokens
 pub mod Types
+pub mod Within

@@ -1,5 +1,5 @@
 -- Where a tree stands says nothing of how deep it is.
-use Rattle.std.proofs.Common.{◌≡◌, ℕ, ◌+◌, max, List, [], ◌∷◌, Option, Some, None, refl, arith}
+use Rattle.std.proofs.Common.{◌≡◌, max, List, [], ◌∷◌, Option, Some, None, refl, arith}
 use Rattle.ddl_base.specs.declared.span.Span.{Span}
 use Rattle.ddl_tree.specs.TypeTree as ty
 use Rattle.ddl_tree.specs.ClassTree as cls

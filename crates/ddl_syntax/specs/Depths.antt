@@ -124,3 +124,22 @@ need fs _ = 1
 -- the depth of the shallowest module that can still be read
 abbrev pub lowest : State → ℕ
 lowest z = low z.0 (need z.0 z.1)
+
+-- how many levels a form adds around its part
+abbrev pub adds : Frame → ℕ
+adds (frame.in_module a n) = 0
+adds (frame.in_param h s o x) = 0
+adds (frame.in_result h) = 0
+adds (frame.in_body h t n) = 0
+adds (frame.in_class_body s x) = 0
+adds (frame.in_part p o) = 0
+adds _ = 1
+
+abbrev pub adds_in : Frame → List Frame → ℕ
+adds_in (frame.in_paren s) (frame.in_many r ex.Free m ∷ fs) = 0
+adds_in f fs = adds f
+
+-- all of them
+abbrev pub levels : List Frame → ℕ
+levels [] = 0
+levels (f ∷ fs) = adds_in f fs + levels fs

@@ -3,4 +3,6 @@
 
 mod law;
 
-pub use law::{machine_reads_modules_exactly, prints_tell_modules_apart};
+pub use law::{
+    machine_knows_the_least_depth, machine_reads_modules_exactly, prints_tell_modules_apart,
+};
