@@ -19,7 +19,7 @@ found_room full at m found (Ok (None, n)) h =
 found_room full at m found (Ok (Some tok, n)) h =
     let good : Found = Ok (Some tok, n) in let bad : Found = Err (TooManyTokens at) in room_by full at n m tok found good bad refl refl h
 
-next_found : (full : Bool) (at b : ℕ) (text : List ℕ) (found : Option Tok) (n : ℕ) → next_piece full at b text ≡ Ok (found, n) → (piece at b text ≡ Ok (found, n)) × (full ≡ true → found ≡ None)
+pub next_found : (full : Bool) (at b : ℕ) (text : List ℕ) (found : Option Tok) (n : ℕ) → next_piece full at b text ≡ Ok (found, n) → (piece at b text ≡ Ok (found, n)) × (full ≡ true → found ≡ None)
 unfolding next_piece
 next_found full at b text found n h =
     let r : Found = Ok (found, n) in

@@ -1,5 +1,5 @@
 -- A text has one list of tokens, or one first error.
-use Rattle.std.specs.Prelude.{◌≡◌, ◌≢◌, ℕ, List, length}
+use Rattle.std.specs.Prelude.{◌≡◌, ◌≢◌, ◌⊎◌, ℕ, List, length}
 use Rattle.ddl_token.specs.declared.token.Token.{Token}
 use Rattle.ddl_lex.specs.declared.error.LexError.{LexError}
 use Rattle.ddl_lex.specs.declared.error.LexError.TheVariants.{NoMemory}
@@ -16,3 +16,7 @@ NoTokensWithError = (text : List ℕ) (e : LexError) (tokens : List Token) → e
 -- two errors that a text has, other than want of memory, are one
 abbrev pub OneError : Type 0
 OneError = (text : List ℕ) (e f : LexError) → e ≢ NoMemory → f ≢ NoMemory → HasError text e → HasError text f → e ≡ f
+
+-- a text is cut whole into tokens, or has an error other than want of memory
+abbrev pub TokensOrError : Type 0
+TokensOrError = (text : List ℕ) → ((tokens : List Token) × Cut text tokens (length text)) ⊎ ((e : LexError) × (e ≢ NoMemory) × HasError text e)

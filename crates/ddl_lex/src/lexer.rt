@@ -29,7 +29,7 @@ fn keep(tokens: &mut Vec<Token>, found: Option<Tok>, place: Place, to: u32) -> R
 
 /// The tokens of a text, each the longest that begins at its place, or the first error in it.
 /// The rules of the signs are those of the DaeDaLus User Guide, with this profile's bounds. A text has one
-/// answer, as `lex_law` says, unless memory runs out: then nothing is left of the tokens.
+/// answer, as `lex_law` says, unless memory runs out.
 pub fn lex(alloc: Global, text: &[u8]) -> Result<Vec<Token>, LexError>
     requires { length text.now ≤ 2 ^ 22 }
     ensures tokens { IfOk result (λ tokens. Cut text.now tokens.items (length text.now)) }
