@@ -1,0 +1,11 @@
+pub mod BelowSteps
+pub mod CountSteps
+pub mod Counting
+pub mod GivenBits
+pub mod Layers
+pub mod Pairs
+pub mod Searching
+pub mod Sized
+pub mod Steps
+pub mod Tally
+pub mod Verdicts

@@ -1,0 +1,9 @@
+pub mod Accepted
+pub mod Counts
+pub mod Covered
+pub mod FixedBits
+pub mod Overlaps
+pub mod Tree
+pub mod Verdict
+pub mod View
+pub mod Widths

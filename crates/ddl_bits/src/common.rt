@@ -1,0 +1,81 @@
+ghost use Rattle.ddl_bits.specs.Accepted.{PartsAccepted};
+ghost use Rattle.ddl_bits.specs.Overlaps.{parts_both, HasNone, IsLeastBetween, IsLeastIfAny};
+ghost use Rattle.ddl_bits.specs.Tree.{parts_fit, parts_width};
+ghost use Rattle.ddl_bits.specs.View.{parts_view};
+ghost use Rattle.std.specs.Prelude.{◌≡◌, ◌+◌, ◌≤◌, ◌^◌};
+
+use crate::below::parts_below;
+use crate::clash::are_told_apart;
+use crate::fitting::parts_fit;
+use crate::layout::LayoutPart;
+
+/// The least number that fits both of two lists of parts of this width.
+pub(crate) fn least_common(a: &[LayoutPart], b: &[LayoutPart], width: u32) -> Option<u128>
+    requires a_accepted { PartsAccepted (parts_view a.now) }
+    requires b_accepted { PartsAccepted (parts_view b.now) }
+    requires a_width { parts_width (parts_view a.now) ≡ width }
+    requires b_width { parts_width (parts_view b.now) ≡ width }
+    requires at_most_128 { width ≤ 128 }
+    ensures { IsLeastIfAny (parts_both (parts_view a.now) (parts_view b.now)) result }
+{
+    if are_told_apart(a, b, width) {
+        return None;
+    }
+    least_common_from(a, b, width, 0, width)
+}
+
+/// The same among the numbers that have all but their lowest `bits` as `from` has them.
+fn least_common_from(
+    a: &[LayoutPart],
+    b: &[LayoutPart],
+    width: u32,
+    from: u128,
+    bits: u32,
+) -> Option<u128>
+    requires a_accepted { PartsAccepted (parts_view a.now) }
+    requires b_accepted { PartsAccepted (parts_view b.now) }
+    requires a_width { parts_width (parts_view a.now) ≡ width }
+    requires b_width { parts_width (parts_view b.now) ≡ width }
+    requires at_most_128 { width ≤ 128 }
+    requires fewer { bits ≤ width }
+    requires within { from + 2 ^ bits ≤ 2 ^ width }
+    ensures { IsLeastBetween (parts_both (parts_view a.now) (parts_view b.now)) from (from + 2 ^ bits) result }
+{
+    if has_none(a, width, from, bits) || has_none(b, width, from, bits) {
+        return None;
+    }
+    if bits == 0 {
+        return Some(from);
+    }
+    let half = bits - 1;
+    match least_common_from(a, b, width, from, half) {
+        Some(number) => Some(number),
+        None => least_common_from(a, b, width, from + (1 << half), half),
+    }
+}
+
+/// Whether parts have no number among those that have all but their lowest `bits` as `from` has them.
+fn has_none(parts: &[LayoutPart], width: u32, from: u128, bits: u32) -> bool
+    requires accepted { PartsAccepted (parts_view parts.now) }
+    requires has_width { parts_width (parts_view parts.now) ≡ width }
+    requires at_most_128 { width ≤ 128 }
+    requires fewer { bits ≤ width }
+    requires within { from + 2 ^ bits ≤ 2 ^ width }
+    ensures { HasNone (parts_fit (parts_view parts.now)) from (from + 2 ^ bits) result }
+{
+    let last = from + last_of(bits);
+    parts_below(parts, width, from) == parts_below(parts, width, last)
+        && !parts_fit(parts, width, last)
+}
+
+/// The greatest number of so many bits.
+fn last_of(bits: u32) -> u128
+    requires { bits ≤ 128 }
+    ensures { result + 1 ≡ 2 ^ bits }
+{
+    if bits == 128 {
+        u128::MAX
+    } else {
+        (1 << bits) - 1
+    }
+}

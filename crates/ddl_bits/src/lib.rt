@@ -1,0 +1,25 @@
+//! Layouts of bits: which numbers a bitdata has, and which of its constructors each fits.
+#![tactic(auto)]
+
+mod below;
+mod checked;
+mod clash;
+mod common;
+mod counts;
+mod coverage;
+mod error;
+mod fitting;
+mod layout;
+mod one_width;
+mod overlap;
+mod places;
+#[cfg(test)]
+mod tests;
+mod verdict;
+mod widths;
+
+pub use checked::{Checked, fits};
+pub use coverage::covered;
+pub use error::{BitError, Gap};
+pub use layout::{Layout, LayoutCon, LayoutPart};
+pub use verdict::check;

@@ -1,0 +1,25 @@
+ghost use Rattle.ddl_bits.specs.Verdict.{HasAcceptedParts, IsVerdict};
+ghost use Rattle.ddl_bits.specs.View.{layout_view};
+
+use crate::checked::Checked;
+use crate::error::BitError;
+use crate::layout::Layout;
+use crate::one_width::one_width;
+use crate::overlap::first_overlap;
+
+/// Keeps a layout whose constructors have one width of at most 128 bits, where no number fits two.
+/// Its inner layouts are to be accepted. Of several errors too great a width is the first, then
+/// another width, then an overlap.
+#[tactic(auto, using(crate::proofs::Layers::layers))]
+pub fn check(layout: Layout) -> Result<Checked, BitError>
+    requires { HasAcceptedParts (layout_view layout) }
+    ensures { IsVerdict layout result }
+{
+    match one_width(&layout) {
+        Err(error) => Err(error),
+        Ok(width) => match first_overlap(&layout.cons, width) {
+            Some(shared) => Err(BitError::Overlap(shared.first, shared.second, shared.number)),
+            None => Ok(Checked { layout, width }),
+        },
+    }
+}
