@@ -1,5 +1,5 @@
 use crate::{Status, run};
-use ddl_outside::{MemFiles, MemSink};
+use ddl_outside::{Files, Length, MemFiles, MemSink, Piece};
 use std::alloc::Global;
 use std::test::Fail;
 
@@ -146,6 +146,45 @@ fn rows(rt: HostRuntime) -> Result<(), Fail> {
             row.module
         );
     }
+    Ok(())
+}
+
+/// Files of which each read tells one byte.
+#[derive(Drop)]
+struct OneByOne {
+    files: MemFiles,
+}
+
+impl Files for OneByOne {
+    ghost use Rattle.ddl_outside.specs.MemFiles.{files_state};
+    ghost use Rattle.ddl_outside.specs.Told.{told_in_held};
+
+    ghost state = { λ f. files_state f.files };
+
+    ghost told_is_held = { λ f name n told. told_in_held f.files.files name n told };
+
+    fn length(&mut self, name: &str) -> Length {
+        self.files.length(name)
+    }
+
+    fn read(&mut self, name: &str, at: u64, into: &mut [u8]) -> Piece {
+        match self.files.read(name, at, into) {
+            Piece::Got(_) => Piece::Got(1),
+            piece => piece,
+        }
+    }
+}
+
+/// The module and the input are read on where a read gives less than was asked for.
+#[test]
+fn short_reads_go_on(rt: HostRuntime) -> Result<(), Fail> {
+    let alloc = rt.alloc();
+    let files = files(alloc, b"def Main = Match \"ab\"", b"ab", 0)?;
+    let mut files = OneByOne { files };
+    let mut out = MemSink::new(alloc, AMPLE)?;
+    let status = run(alloc, &words(alloc, "run A in")?, &mut files, &mut out);
+    assert_eq!(rt; status, Status::Parses);
+    assert_eq!(rt; out.bytes(), PARSES.as_bytes());
     Ok(())
 }
 
