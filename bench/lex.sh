@@ -2,19 +2,13 @@
 # How the time of the lexer and of the layout grows: texts of 1, 2 and 4 MiB, as ratios to the first, start-up taken off.
 . "$(dirname -- "$0")/program.sh"
 
-# A text of so many bytes, of a kind.
+# A text of so many bytes, of a kind: whole lines of 128 or 32 bytes.
 text() {
     case $1 in
-    code) yes 'def Main = block { x = UInt8; let y = Match "ab"; ^ (x + 0x1f) } -- a comment' ;;
-    comment) printf -- '{-'; yes 'what a comment holds' ;;
-    nested) yes '{- {- one in another -} -}' ;;
-    literal) printf '"'; yes 'a text that goes on and on' | tr '\n' ' ' ;;
-    esac | head -c "$(($2 - 8))"
-    case $1 in
-    code) printf '\n' ;;
-    comment) printf -- '-}' ;;
-    nested) printf '\n{- -}' ;;
-    literal) printf '"' ;;
+    code) yes 'def Main = block { first = UInt8; let second = Match "ab"; ^ (first + 0x1f) } -- a comment that fills the line to its end, here' | head -c "$2" ;;
+    comment) printf -- '{-'; yes 'what a comment holds' | head -c "$(($2 - 4))"; printf -- '-}' ;;
+    nested) yes '{- {- one in another -} -}     ' | head -c "$2" ;;
+    literal) printf '"'; yes 'a text that goes on and on' | tr '\n' ' ' | head -c "$(($2 - 2))"; printf '"' ;;
     esac
 }
 
