@@ -1,18 +1,16 @@
 #!/bin/sh
-# How the time of the solver grows: a chain of variables, each an array of the next, and a tower of them, each a map from
-# the next to the next, whose first type written out would have 2^height parts.
+# How the time of the solver grows: a chain of variables, each an array of another, and a tower of them, each a map from
+# another to itself, whose outermost type written out would have 2^height parts. Each is built in both orders: every
+# variable made of the next, or of the one before. In the second order each equation leads through all that stands, so
+# that the time grows with the square.
 . "$(dirname -- "$0")/program.sh"
 : >"$folder/empty"
 idle=$(milliseconds "$program" chain "$folder/empty" 1)
-for part in chain doublings; do
-    case $part in chain) heights='2500 5000 10000' ;; doublings) heights='16 32 64 10000' ;; esac
-    first=
+for part in chain chain-up doublings doublings-up; do
     line="$part:"
-    for height in $heights; do
+    for height in 64 2500 5000 10000; do
         took=$(milliseconds "$program" "$part" "$folder/empty" "$height") || exit 1
-        took=$((took - idle))
-        [ -n "$first" ] || first=$took
-        line="$line $height $took ms"
+        line="$line $height $((took - idle)) ms"
     done
     echo "$line"
 done

@@ -1,4 +1,4 @@
-ghost use Rattle.std.specs.Prelude.{◌≡◌, ◌+◌, ◌^◌, ◌<◌, ◌-◌, IfOk};
+ghost use Rattle.std.specs.Prelude.{◌≡◌, ◌+◌, ◌^◌, ◌<◌, ◌-◌, ℕ, IfOk, OnOk};
 ghost use Rattle.ddl_types.specs.Types.{Below};
 ghost use Rattle.ddl_types.specs.TyView.{ty_view};
 ghost use Rattle.ddl_unify.specs.State.{variables};
@@ -8,43 +8,62 @@ use ddl_types::Ty;
 use ddl_unify::{EquateError, Solver};
 use std::alloc::Global;
 
-/// An array of a variable, or a map from it to itself.
+/// What a variable of a tower is made of: an array of another, or a map from it to itself.
+#[derive(Clone, Copy)]
+pub enum Link {
+    Array,
+    Map,
+}
+
+/// Whether each variable is made of the one that comes after it, or of the one before.
+#[derive(Clone, Copy)]
+pub enum Order {
+    Downward,
+    Upward,
+}
+
 #[tactic(auto, using(ddl_types::proofs::TyLayers::layers))]
-fn made_of(alloc: Global, twice: bool, variable: u32) -> Result<Ty, NoMemory>
-    ensures { IfOk result (λ t. Below (ty_view t) (variable + 1)) }
+fn made_of(alloc: Global, link: Link, variable: u32) -> Result<Ty, NoMemory>
+    ensures { IfOk result (λ t. (n : ℕ) → variable < n → Below (ty_view t) n) }
 {
     let part = Box::new(alloc, Ty::Var(variable))?;
-    if twice {
-        Ok(Ty::Map(part, Box::new(alloc, Ty::Var(variable))?))
-    } else {
-        Ok(Ty::Array(part))
+    match link {
+        Link::Array => Ok(Ty::Array(part)),
+        Link::Map => Ok(Ty::Map(part, Box::new(alloc, Ty::Var(variable))?)),
     }
 }
 
-/// Adds variables, each made of the next, and gives the first.
+/// Makes a variable of another.
 #[tactic(auto, using(ddl_types::proofs::TyLayers::layers))]
-fn tower(alloc: Global, solver: &mut Solver, twice: bool, height: u32) -> Result<u32, EquateError>
-    requires { variables solver.old + height + 1 < 2 ^ 32 - 1 }
-    ensures first { IfOk result (λ v. v < variables solver.new) }
-    ensures variables { IfOk result (λ v. variables solver.new ≡ variables solver.old + height + 1) }
+fn tie(
+    alloc: Global,
+    solver: &mut Solver,
+    link: Link,
+    from: u32,
+    to: u32,
+) -> Result<(), EquateError>
+    requires from_below { from < variables solver.old }
+    requires to_below { to < variables solver.old }
+    ensures { OnOk result (variables solver.new ≡ variables solver.old) }
 {
-    let first = solver.fresh()?;
-    let mut last = first;
-    for _ in 0..height {
-        let next = solver.fresh()?;
-        let made = made_of(alloc, twice, next)?;
-        solver.equate(&Ty::Var(last), &made)?;
-        last = next;
-    }
-    Ok(first)
+    let made = made_of(alloc, link, to)?;
+    solver.equate(&Ty::Var(from), &made)?;
+    Ok(())
 }
 
-/// Makes a tower; gives its height.
-#[tactic(auto, using(ddl_types::proofs::TyLayers::layers))]
-pub fn one_tower(alloc: Global, twice: bool, height: u32) -> Result<u32, EquateError>
+/// Makes a tower of variables, one link after the other; gives its height.
+pub fn tower(alloc: Global, link: Link, order: Order, height: u32) -> Result<u32, EquateError>
     requires { height < 2 ^ 24 }
 {
     let mut solver = Solver::new(alloc);
-    tower(alloc, &mut solver, twice, height)?;
+    let mut last = solver.fresh()?;
+    for _ in 0..height {
+        let next = solver.fresh()?;
+        match order {
+            Order::Downward => tie(alloc, &mut solver, link, last, next)?,
+            Order::Upward => tie(alloc, &mut solver, link, next, last)?,
+        }
+        last = next;
+    }
     Ok(height)
 }

@@ -5,16 +5,17 @@ mod classes;
 mod equations;
 mod tokens;
 
+use crate::equations::{Link, Order, tower};
 use std::alloc::Global;
 use std::io::{Error, ErrorKind};
 use std::{env, fs, io};
 
 /// The height of a tower of types.
-fn solved(alloc: Global, twice: bool, height: u32) -> io::Result<u32> {
+fn solved(alloc: Global, link: Link, order: Order, height: u32) -> io::Result<u32> {
     if height >= 1 << 24 {
         return Err(Error::from(ErrorKind::InvalidInput));
     }
-    match equations::one_tower(alloc, twice, height) {
+    match tower(alloc, link, order, height) {
         Ok(height) => Ok(height),
         Err(_) => Err(Error::from(ErrorKind::Other)),
     }
@@ -33,8 +34,10 @@ fn main(rt: HostRuntime) -> io::Result<()> {
     match part.as_str() {
         "class" => println!(rt; "{}", classes::letters_before_a_stop(&text, number)),
         "lex" => println!(rt; "{}", tokens::count(alloc, &text)?),
-        "chain" => println!(rt; "{}", solved(alloc, false, number)?),
-        "doublings" => println!(rt; "{}", solved(alloc, true, number)?),
+        "chain" => println!(rt; "{}", solved(alloc, Link::Array, Order::Downward, number)?),
+        "chain-up" => println!(rt; "{}", solved(alloc, Link::Array, Order::Upward, number)?),
+        "doublings" => println!(rt; "{}", solved(alloc, Link::Map, Order::Downward, number)?),
+        "doublings-up" => println!(rt; "{}", solved(alloc, Link::Map, Order::Upward, number)?),
         _ => Err(Error::from(ErrorKind::InvalidInput)),
     }
 }
