@@ -85,3 +85,5 @@ IsPiece-earlier a b c name at into (piece_of.Got n) later h = h
 IsPiece-earlier a b c name at into piece_of.End later h = h
 IsPiece-earlier a b c name at into piece_of.Absent later h = IsAbsent-earlier a b c name later h
 IsPiece-earlier a b c name at into piece_of.Failed later h = IsFailed-earlier a b c later h
+
+pub ruleset file_lemmas = (Later-trans, TouchesOnly-trans)

@@ -7,4 +7,5 @@ pub mod MemSink
 pub mod Named
 pub mod Sink
 pub mod Told
+pub mod WholeFile
 pub mod Writing

@@ -9,6 +9,7 @@ mod mem_files;
 mod mem_sink;
 mod named;
 mod sink;
+mod whole_file;
 mod writing;
 
 pub use files::{Files, Length, Piece};
@@ -18,6 +19,7 @@ pub use host_out::HostOut;
 pub use mem_files::MemFiles;
 pub use mem_sink::MemSink;
 pub use sink::{Sink, Took};
+pub use whole_file::{Whole, read_whole};
 pub use writing::{Written, write_lines, write_whole};
 
 #[cfg(test)]

@@ -1,6 +1,6 @@
 use crate::{
-    Files, Filled, HostFiles, HostOut, Length, MemFiles, MemSink, Piece, Sink, Took, Written, fill,
-    write_whole,
+    Files, Filled, HostFiles, HostOut, Length, MemFiles, MemSink, Piece, Sink, Took, Whole,
+    Written, fill, read_whole, write_whole,
 };
 use std::fs;
 use std::test::Fail;
@@ -62,5 +62,18 @@ fn writes_to_a_writer(rt: HostRuntime) -> Result<(), Fail> {
     assert_eq!(rt; write_whole(&mut out, b"rest"), Written::Whole);
     drop(out);
     assert_eq!(rt; text.as_slice(), b"line\nrest".as_slice());
+    Ok(())
+}
+
+/// A file is read whole where it is no longer than asked for.
+#[test]
+fn a_whole_file(rt: HostRuntime) -> Result<(), Fail> {
+    let alloc = rt.alloc();
+    let mut files = MemFiles::new(alloc);
+    files.add("A", b"abc".to_vec(alloc)?)?;
+    let whole = read_whole(alloc, &mut files, "A", 3)?;
+    assert!(rt; matches!(&whole, Whole::Bytes(bytes) if bytes.as_slice() == b"abc".as_slice()));
+    let longer = read_whole(alloc, &mut files, "A", 2)?;
+    assert!(rt; matches!(longer, Whole::Longer(3)));
     Ok(())
 }
