@@ -10,19 +10,21 @@ use Rattle.ddl_lex.specs.declared.error.LexError.{LexError}
 use Rattle.ddl_lex.specs.declared.error.LexError.TheVariants.{NoMemory, BadByte, OpenText, BadEscape, NumberTooWide, TooManyTokens}
 use Rattle.ddl_lex.specs.declared.literal.Element.{Element}
 use Rattle.ddl_lex.specs.declared.literal.Element.TheVariants.{Means, Closes, Ends, Control, NoEscape}
-use Rattle.ddl_lex.specs.Letters.{is_white, is_decimal, run}
+use Rattle.ddl_lex.specs.Letters.{is_white, is_decimal, run, begins_token, begins_with}
 use Rattle.ddl_lex.specs.Comments.{comment}
 use Rattle.ddl_lex.specs.Literals.{literal, character_of, element, later, meaning, read, bytes_behind}
 use Rattle.ddl_lex.specs.Names.{begins_name, begins_class}
 use Rattle.ddl_lex.specs.Numbers.{number, base_of, base_mark, is_digit_of, radix, value_behind}
 use Rattle.ddl_lex.specs.Marks.{mark_of}
-use Rattle.ddl_lex.specs.Pieces.{piece, next_piece, one_more_token, begins_token, begins_with, opened, text_token, marked}
-use Rattle.ddl_lex.specs.Tokens.{Cut, begin, more, HasError, IsPiece, is_full, stands, place_at, with_token}
+use Rattle.ddl_lex.specs.Pieces.{piece, next_piece, one_more_token, opened, text_token, marked}
+use Rattle.ddl_lex.specs.Tokens.{Cut, begin, more, HasError, IsPiece, place_at, with_token}
+use Rattle.ddl_lex.proofs.Standing.{is_full, stands}
 use Rattle.ddl_lex.specs.Only.{TokensOrError}
 use Rattle.ddl_lex.proofs.Longest.{Found}
 use Rattle.ddl_lex.proofs.Next.{next_right, next_found}
 use Rattle.ddl_lex.proofs.Cutting.{few_more}
 use Rattle.ddl_lex.proofs.Digits.{number_token}
+use Rattle.ddl_lex.proofs.Erring.{stands_error}
 
 abbrev Read : Type 0
 Read = Result (List ℕ × ℕ) LexError
@@ -119,11 +121,11 @@ GoesOn text at = (tokens : List Token) (to : ℕ) → at < to → to ≤ length 
 
 answer_at : (text : List ℕ) (tokens : List Token) (at : ℕ) (r : Found) → stands text tokens at ≡ r → at < length text → length tokens ≤ 2 ^ 20 → Cut text tokens at → GoesOn text at → Answered text
 answer_at text tokens at (Err NoMemory) s h few c on = absurd (next_memory (is_full tokens) at (get_or text at 0) (drop at text) s)
-answer_at text tokens at (Err (BadByte a)) s h few c on = inr (BadByte a, (λ x. (cc)), (tokens, at, c, h, s))
-answer_at text tokens at (Err (OpenText a)) s h few c on = inr (OpenText a, (λ x. (cc)), (tokens, at, c, h, s))
-answer_at text tokens at (Err (BadEscape a)) s h few c on = inr (BadEscape a, (λ x. (cc)), (tokens, at, c, h, s))
-answer_at text tokens at (Err (NumberTooWide a)) s h few c on = inr (NumberTooWide a, (λ x. (cc)), (tokens, at, c, h, s))
-answer_at text tokens at (Err (TooManyTokens a)) s h few c on = inr (TooManyTokens a, (λ x. (cc)), (tokens, at, c, h, s))
+answer_at text tokens at (Err (BadByte a)) s h few c on = inr (BadByte a, (λ x. (cc)), (tokens, at, c, h, stands_error text tokens at (BadByte a) h s))
+answer_at text tokens at (Err (OpenText a)) s h few c on = inr (OpenText a, (λ x. (cc)), (tokens, at, c, h, stands_error text tokens at (OpenText a) h s))
+answer_at text tokens at (Err (BadEscape a)) s h few c on = inr (BadEscape a, (λ x. (cc)), (tokens, at, c, h, stands_error text tokens at (BadEscape a) h s))
+answer_at text tokens at (Err (NumberTooWide a)) s h few c on = inr (NumberTooWide a, (λ x. (cc)), (tokens, at, c, h, stands_error text tokens at (NumberTooWide a) h s))
+answer_at text tokens at (Err (TooManyTokens a)) s h few c on = inr (TooManyTokens a, (λ x. (cc)), (tokens, at, c, h, stands_error text tokens at (TooManyTokens a) h s))
 answer_at text tokens at (Ok (found, n)) s h few c on =
     let b = get_or text at 0 in
     let rest : drop at text ≡ b ∷ drop (suc at) text = drop-cons text at 0 h in

@@ -1,5 +1,5 @@
 -- A character is read where its quotes mean one byte.
-use Rattle.std.proofs.Common.{◌≡◌, ◌<◌, ◌≤◌, ℕ, suc, ◌+◌, ◌-◌, ◌==◌, Bool, true, false, List, [], ◌∷◌, length, drop, get_or, Option, Some, Result, Ok, Err, refl, ap, sym, subst, ◌∙◌, arith, if◌then◌else◌}
+use Rattle.std.proofs.Common.{◌≡◌, ◌<◌, ◌≤◌, ℕ, suc, ◌+◌, ◌-◌, ◌==◌, true, List, [], ◌∷◌, length, drop, get_or, Option, Some, Result, Ok, Err, refl, ap, sym, subst, ◌∙◌, arith, if◌then◌else◌}
 use Rattle.std.proofs.Math.Seq.{drop-cons}
 use Rattle.ddl_token.specs.declared.token.Tok.{Tok}
 use Rattle.ddl_token.specs.declared.token.Tok.TheVariants as t
@@ -8,19 +8,12 @@ use Rattle.ddl_lex.specs.declared.error.LexError.TheVariants.{OpenText}
 use Rattle.ddl_lex.specs.declared.literal.Element.{Element}
 use Rattle.ddl_lex.specs.declared.literal.Element.TheVariants.{Means, Closes, Ends, Control, NoEscape}
 use Rattle.ddl_lex.specs.Literals.{literal, character, character_of, element, meaning, read, bytes_behind}
+use Rattle.ddl_lex.proofs.Contents.{closing}
 use Rattle.ddl_lex.proofs.Elements.{one_element, behind}
-use Rattle.ddl_lex.proofs.Quoted.{literal_whole, element_some, behind_open}
+use Rattle.ddl_lex.proofs.Quoted.{literal_whole, element_some}
 
 abbrev Read : Type 0
 Read = Result (List ℕ × ℕ) LexError
-
-quote_by : (v : Bool) (y : Element) → (y ≡ Closes → ⊥) → (if v then Closes else y) ≡ Closes → v ≡ true
-quote_by true y n e = refl
-quote_by false y n e = absurd (n e)
-
--- a literal is closed by its quote
-closing : (quote b : ℕ) (bs : List ℕ) → element quote (b ∷ bs) ≡ Closes → (b == quote) ≡ true
-closing quote b bs e = quote_by (b == quote) _ (behind_open b bs) e
 
 means_some : (v : ℕ) (x : Read) (n : ℕ) → meaning v x ≡ Ok ([], n) → ⊥
 means_some v (Err e) n h = cc

@@ -3,10 +3,12 @@ use Rattle.std.proofs.Common.{◌≡◌, ◌≤◌, ℕ, zero, suc, ◌+◌, ◌
 use Rattle.ddl_token.specs.declared.token.Tok.{Tok}
 use Rattle.ddl_token.specs.declared.token.Tok.TheVariants as t
 use Rattle.ddl_lex.specs.Letters.{in_line, run}
-use Rattle.ddl_lex.specs.Comments.{comment, one_more, opens, ends}
-use Rattle.ddl_lex.specs.Forms.{IsForm, AllPass, NoLonger, IsLongest, IsLineComment, IsComment}
+use Rattle.ddl_lex.specs.Comments.{comment, one_more}
+use Rattle.ddl_lex.specs.Nesting.{opens, ends, IsComment}
+use Rattle.ddl_lex.specs.Forms.{IsForm, AllPass, NoLonger, IsLongest, IsLineComment}
 use Rattle.ddl_lex.proofs.Runs.{run_most, run_passes, run_within}
 use Rattle.ddl_lex.proofs.Lengths.{taken, white_length, mark_length, line_byte, comment_byte, hidden_byte}
+use Rattle.ddl_lex.proofs.Nested.{comment_counted, counted_comment}
 use Rattle.ddl_lex.proofs.Firsts.{class_of, Begins, begins, small_class}
 
 -- more text does not move the end of a comment
@@ -73,7 +75,7 @@ at_comment b d bs n c s e u i None k h (inl w) g = omega (arith, white_length b 
 at_comment b d bs n c s e u i None k h (inr (inl l)) g = absurd (omega (arith, line_byte b (take k (d ∷ bs)) l))
 at_comment b d bs n c s e u i None zero h (inr (inr l)) g = absurd l
 at_comment b d bs n c s e u i None (suc k) h (inr (inr l)) g =
-    let far = comment_more 0 0 bs k (length (take k bs)) l.2 in
+    let far = comment_more 0 0 bs k (length (take k bs)) (comment_counted (take k bs) l.2) in
     let same : n ≡ length (take k bs) = cc in
     omega (arith, same, taken bs k (omega arith))
 at_comment b d bs n c s e u i (Some (t.Word w)) k h f g = absurd (omega arith)
@@ -95,7 +97,7 @@ pub comment_longest : (b d : ℕ) (bs : List ℕ) (n : ℕ) → b ≡ 123 → d 
 comment_longest b d bs n u v i =
     let ends = comment_ends 0 0 bs n i in
     let e : n + 2 ≡ suc (suc n) = omega arith in
-    let form : IsComment (b ∷ d ∷ take n bs) = (u, v, ends.1 ∙ ap Some (sym (taken bs n ends.0))) in
+    let form : IsComment (b ∷ d ∷ take n bs) = (u, v, counted_comment bs n i) in
     (omega (arith, ends.0), omega arith, subst (λ z. IsForm None (take z (b ∷ d ∷ bs))) (sym e) (inr (inr form)), comment_no_longer b d bs n u i)
 
 -- ---- a comment to the end of its line

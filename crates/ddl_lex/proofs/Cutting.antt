@@ -8,7 +8,8 @@ use Rattle.ddl_lex.specs.declared.place.Place.{Place}
 use Rattle.ddl_lex.specs.Pieces.{next_piece}
 use Rattle.ddl_lex.proofs.Next.{next_right}
 use Rattle.ddl_lex.specs.Places.{line_behind, column_behind, column_after, line_at, column_at}
-use Rattle.ddl_lex.specs.Tokens.{Cut, begin, more, is_full, place_at, with_token}
+use Rattle.ddl_lex.specs.Tokens.{Cut, begin, more, place_at, with_token}
+use Rattle.ddl_lex.proofs.Standing.{is_full}
 
 -- nothing is cut yet
 pub cut_nothing : (text : List ℕ) (tokens : List Token) (at : ℕ) → tokens ≡ [] → at ≡ 0 → Cut text tokens at

@@ -9,12 +9,13 @@ use Rattle.ddl_token.specs.declared.token.Base.TheVariants.{Decimal, Hexadecimal
 use Rattle.ddl_lex.specs.declared.error.LexError.{LexError}
 use Rattle.ddl_lex.specs.declared.error.LexError.TheVariants.{NumberTooWide}
 use Rattle.ddl_lex.specs.Letters.{is_decimal, between, run}
-use Rattle.ddl_lex.specs.Literals.{is_hexadecimal}
+use Rattle.ddl_lex.specs.Letters.{is_hexadecimal}
 use Rattle.ddl_lex.specs.Numbers.{is_digit_of, radix, base_mark, base_of, value_behind, number}
 use Rattle.ddl_lex.specs.Forms.{IsForm, IsNumber, AllPass, NoLonger, IsLongest, Fits, base_spelling}
 use Rattle.ddl_lex.proofs.Runs.{run_most, run_passes, run_within}
 use Rattle.ddl_lex.proofs.Lengths.{taken}
 use Rattle.ddl_lex.proofs.Firsts.{class_of, Begins, begins}
+use Rattle.ddl_lex.proofs.Decided.{equal_of}
 
 -- how many bytes a number of the base has
 abbrev pub extent : Base → List ℕ → ℕ
@@ -24,9 +25,6 @@ extent base text = base_mark base + run (is_digit_of base) (drop (base_mark base
 both : (a b : Bool) → (a && b) ≡ true → (a ≡ true) × (b ≡ true)
 both true b h = (refl, h)
 both false b h = cc
-
-equal_of : (a b : ℕ) → (a == b) ≡ true → a ≡ b
-equal_of a b h = grind (arith, nat_tests)
 
 equal_to : (a b : ℕ) → a ≡ b → (a == b) ≡ true
 equal_to a b h = grind (arith, nat_tests)

@@ -10,7 +10,7 @@ abbrev pub behind : List ℕ → ℕ → Result (List ℕ × ℕ) LexError → R
 behind bytes n (Err e) = Err e
 behind bytes n (Ok r) = Ok (bytes ++ r.0, n + r.1)
 
-behind_none : (r : Result (List ℕ × ℕ) LexError) → r ≡ behind [] 0 r
+pub behind_none : (r : Result (List ℕ × ℕ) LexError) → r ≡ behind [] 0 r
 behind_none (Err e) = refl
 behind_none (Ok r) = grind arith
 
@@ -22,7 +22,7 @@ meaning_behind : (v n : ℕ) (r : Result (List ℕ × ℕ) LexError) → meaning
 meaning_behind v n (Err e) = refl
 meaning_behind v n (Ok r) = grind arith
 
-behind_twice : (a b : List ℕ) (n k : ℕ) (r : Result (List ℕ × ℕ) LexError) → behind a n (behind b k r) ≡ behind (a ++ b) (n + k) r
+pub behind_twice : (a b : List ℕ) (n k : ℕ) (r : Result (List ℕ × ℕ) LexError) → behind a n (behind b k r) ≡ behind (a ++ b) (n + k) r
 behind_twice a b n k (Err e) = refl
 behind_twice a b n k (Ok r) = grind (arith, append_assoc)
 

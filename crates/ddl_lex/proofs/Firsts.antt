@@ -166,5 +166,5 @@ begins (Some (t.Upper name)) b bs f = capital_class b f.1.0
 begins (Some (t.Lower name)) b bs f = lower_first b bs f.1
 begins (Some (t.Class name)) b bs f = at_byte b 36 5 f.1.0 refl
 begins (Some (t.Number v base n)) b bs f = number_first base b bs v n f
-begins (Some (t.Char c)) b bs f = at_byte b 39 4 f.0 refl
-begins (Some (t.Text means)) b bs f = at_byte b 34 3 f.0 refl
+begins (Some (t.Char c)) b bs f = at_byte b 39 4 (ap (λ z. get_or z 0 0) f.1) refl
+begins (Some (t.Text means)) b bs f = at_byte b 34 3 (ap (λ z. get_or z 0 0) f.1) refl

@@ -7,7 +7,8 @@ use Rattle.ddl_token.specs.declared.token.Tok.{Tok}
 use Rattle.ddl_token.specs.declared.token.Tok.TheVariants as t
 use Rattle.ddl_token.specs.Spelling.{word_spelling, mark_spelling}
 use Rattle.ddl_lex.specs.Letters.{is_capital, is_small, is_name, run}
-use Rattle.ddl_lex.specs.Forms.{IsForm, IsName, IsHidden, IsWhite, IsLineComment, IsComment, AllPass, NoLonger}
+use Rattle.ddl_lex.specs.Forms.{IsForm, IsName, IsHidden, IsWhite, IsLineComment, AllPass, NoLonger}
+use Rattle.ddl_lex.specs.Nesting.{IsComment}
 use Rattle.ddl_lex.proofs.Runs.{run_most}
 use Rattle.ddl_lex.proofs.Spelled.{word_front}
 use Rattle.ddl_lex.proofs.Marked.{mark_short}

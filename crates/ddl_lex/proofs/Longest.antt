@@ -6,19 +6,20 @@ use Rattle.ddl_token.specs.declared.token.Tok.{Tok}
 use Rattle.ddl_token.specs.declared.token.Tok.TheVariants as t
 use Rattle.ddl_token.specs.Spelling.{mark_spelling}
 use Rattle.ddl_lex.specs.declared.error.LexError.{LexError}
-use Rattle.ddl_lex.specs.Letters.{is_capital, is_white, is_decimal, is_name, in_line, run}
+use Rattle.ddl_lex.specs.Letters.{is_capital, is_white, is_decimal, is_name, in_line, run, begins_with}
 use Rattle.ddl_lex.specs.Comments.{comment}
 use Rattle.ddl_lex.specs.Literals.{literal, character}
 use Rattle.ddl_lex.specs.Names.{begins_name, begins_class, named, class, longer_word, word_or_name, word_of, signed_word}
 use Rattle.ddl_lex.specs.Marks.{mark_of}
-use Rattle.ddl_lex.specs.Pieces.{piece, begins_with, opened, text_token, marked}
+use Rattle.ddl_lex.specs.Pieces.{piece, opened, text_token, marked}
 use Rattle.ddl_lex.specs.Forms.{IsLongest, Fits}
 use Rattle.ddl_lex.proofs.Firsts.{is_letter, class_of, white_class, decimal_class}
 use Rattle.ddl_lex.proofs.Lengths.{white_no_longer}
 use Rattle.ddl_lex.proofs.Commented.{comment_longest, line_longest}
 use Rattle.ddl_lex.proofs.Digits.{number_longest, number_fits}
 use Rattle.ddl_lex.proofs.Quoted.{text_longest, character_longest, character_by}
-use Rattle.ddl_lex.proofs.Namely.{both, equal_of, IsSign, named_longest, class_longest, mark_longest}
+use Rattle.ddl_lex.proofs.Namely.{IsSign, named_longest, class_longest, mark_longest}
+use Rattle.ddl_lex.proofs.Decided.{both, equal_of}
 
 abbrev pub Found : Type 0
 Found = Result (Option Tok × ℕ) LexError

@@ -1,33 +1,22 @@
 -- Words, names, classes and marks: those that are found are the longest forms.
 use Rattle.std.proofs.Common.{◌≡◌, ◌⊎◌, ◌<◌, ◌≤◌, ℕ, zero, suc, ◌+◌, ◌==◌, ◌&&◌, ◌||◌, nat_lt, Bool, true, false, List, [], ◌∷◌, length, take, get_or, Option, Some, None, inl, inr, refl, ap, sym, subst, ◌∙◌, arith, if◌then◌else◌}
 use Rattle.std.proofs.lemmas.Bool.{ltb-true, lt-ltb}
-use Rattle.std.proofs.lemmas.Bool.Decides.{nat_tests}
 use Rattle.ddl_token.specs.declared.word.Word.{Word}
 use Rattle.ddl_token.specs.declared.mark.Mark.{Mark}
 use Rattle.ddl_token.specs.declared.token.Tok.{Tok}
 use Rattle.ddl_token.specs.declared.token.Tok.TheVariants as t
 use Rattle.ddl_token.specs.Spelling.{word_spelling, mark_spelling}
-use Rattle.ddl_lex.specs.Letters.{is_capital, is_small, is_name, is_white, run}
+use Rattle.ddl_lex.specs.Letters.{is_capital, is_small, is_name, is_white, run, begins_with}
 use Rattle.ddl_lex.specs.Names.{begins_name, begins_class, named, signed_word, longer_word, word_of, word_or_name}
 use Rattle.ddl_lex.specs.Marks.{mark_of}
-use Rattle.ddl_lex.specs.Pieces.{begins_with}
-use Rattle.ddl_lex.specs.Forms.{IsForm, IsHidden, IsClass, IsNoWord, IsWhite, IsLineComment, IsComment, AllPass, NoLonger, IsLongest}
+use Rattle.ddl_lex.specs.Forms.{IsForm, IsHidden, IsClass, IsNoWord, IsWhite, IsLineComment, AllPass, NoLonger, IsLongest}
+use Rattle.ddl_lex.specs.Nesting.{IsComment}
 use Rattle.ddl_lex.proofs.Runs.{run_passes, run_within}
 use Rattle.ddl_lex.proofs.Spelled.{word_found, no_word_found}
 use Rattle.ddl_lex.proofs.Marked.{mark_most, mark_begins, no_mark_begins, mark_some}
 use Rattle.ddl_lex.proofs.Lengths.{taken, small_name, IsRunOrWord, letter_length, hidden_length, class_no_longer}
 use Rattle.ddl_lex.proofs.Firsts.{is_letter, letter_class, class_of, Begins, begins, small_class, white_class}
-
-pub either : (a b : Bool) → (a || b) ≡ true → (a ≡ true) ⊎ (b ≡ true)
-either true b h = inl refl
-either false b h = inr h
-
-pub both : (a b : Bool) → (a && b) ≡ true → (a ≡ true) × (b ≡ true)
-both true b h = (refl, h)
-both false b h = cc
-
-pub equal_of : (a b : ℕ) → (a == b) ≡ true → a ≡ b
-equal_of a b h = grind (arith, nat_tests)
+use Rattle.ddl_lex.proofs.Decided.{either, both, equal_of}
 
 -- with what a name begins
 abbrev pub Starts : ℕ → List ℕ → Type 0

@@ -4,9 +4,11 @@ use Rattle.std.proofs.lemmas.Bool.{eq-eqb}
 use Rattle.ddl_token.specs.declared.token.Tok.{Tok}
 use Rattle.ddl_token.specs.declared.token.Token.{Token}
 use Rattle.ddl_lex.specs.declared.error.LexError.TheVariants.{TooManyTokens}
-use Rattle.ddl_lex.specs.Pieces.{piece, next_piece, one_more_token, begins_token}
-use Rattle.ddl_lex.specs.Tokens.{is_full, HasRoom, IsPiece}
+use Rattle.ddl_lex.specs.Pieces.{piece, next_piece, one_more_token}
+use Rattle.ddl_lex.specs.Letters.{begins_token}
+use Rattle.ddl_lex.specs.Tokens.{HasRoom, IsPiece}
 use Rattle.ddl_lex.proofs.Longest.{Found, IsRight, by_test, piece_right}
+use Rattle.ddl_lex.proofs.Standing.{is_full}
 
 room_by : (full : Bool) (at n m : ℕ) (tok : Tok) (found : Option Tok) (good bad : Found) → good ≡ Ok (Some tok, n) → bad ≡ Err (TooManyTokens at) → (if full then bad else good) ≡ Ok (found, m) → (good ≡ Ok (found, m)) × (full ≡ true → found ≡ None)
 room_by true at n m tok found good bad g b e = cc

@@ -6,12 +6,14 @@ use Rattle.ddl_lex.specs.declared.error.LexError.{LexError}
 use Rattle.ddl_lex.specs.declared.error.LexError.TheVariants.{OpenText}
 use Rattle.ddl_lex.specs.declared.literal.Element.{Element}
 use Rattle.ddl_lex.specs.declared.literal.Element.TheVariants.{Means, Closes, Ends, Control, NoEscape}
-use Rattle.ddl_lex.specs.Letters.{is_control}
-use Rattle.ddl_lex.specs.Literals.{literal, character, element, escape, hexadecimal_escape, is_hexadecimal, digit_value, later, meaning, read, bytes_behind, character_of}
-use Rattle.ddl_lex.specs.Forms.{IsForm, IsLiteral, NoLonger, IsLongest}
+use Rattle.ddl_lex.specs.Letters.{is_control, is_hexadecimal, digit_value}
+use Rattle.ddl_lex.specs.Literals.{literal, character, element, escape, hexadecimal_escape, later, meaning, read, bytes_behind, character_of}
+use Rattle.ddl_lex.specs.Elements.{IsLiteral}
+use Rattle.ddl_lex.specs.Forms.{IsForm, NoLonger, IsLongest}
 use Rattle.std.proofs.Math.Seq.{drop-cons}
+use Rattle.ddl_lex.proofs.Contents.{behind_open, literal_read, read_literal}
 use Rattle.ddl_lex.proofs.Elements.{one_element, behind}
-use Rattle.ddl_lex.proofs.Namely.{equal_of}
+use Rattle.ddl_lex.proofs.Decided.{equal_of}
 use Rattle.ddl_lex.proofs.Lengths.{taken}
 use Rattle.ddl_lex.proofs.Firsts.{class_of, Begins, begins}
 
@@ -157,23 +159,6 @@ meaning_inside v (Ok r) bytes n h =
     let pair : List ℕ × ℕ = (v ∷ r.0, suc r.1) in let want : List ℕ × ℕ = (bytes, n) in let same : pair ≡ want = cc in
     (r.1, r.0, sym (ap (λ z. z.1) same), sym (ap (λ z. z.0) same), refl)
 
-not_closes : (c : Bool) (x y : Element) → (x ≡ Closes → ⊥) → (y ≡ Closes → ⊥) → (if c then x else y) ≡ Closes → ⊥
-not_closes true x y f g e = f e
-not_closes false x y f g e = g e
-
-hexadecimal_open : (text : List ℕ) → hexadecimal_escape text ≡ Closes → ⊥
-hexadecimal_open [] e = cc
-hexadecimal_open (x ∷ []) e = cc
-hexadecimal_open (x ∷ y ∷ bs) e = not_closes (is_hexadecimal x && is_hexadecimal y) _ _ (λ z. (cc)) (λ z. (cc)) e
-
-escape_open : (text : List ℕ) → escape text ≡ Closes → ⊥
-escape_open [] e = cc
-escape_open (b ∷ bs) e = not_closes (b == 110) _ _ (λ z. (cc)) (not_closes (b == 116) _ _ (λ z. (cc)) (not_closes (b == 114) _ _ (λ z. (cc)) (not_closes (b == 92 || b == 34 || b == 39) _ _ (λ z. (cc))
-    (not_closes (b == 120) _ _ (hexadecimal_open bs) (λ z. (cc)))))) e
-
-pub behind_open : (b : ℕ) (bs : List ℕ) → (if b == 10 then Ends else (if b == 92 then escape bs else (if is_control b then Control else Means b 1))) ≡ Closes → ⊥
-behind_open b bs e = not_closes (b == 10) _ _ (λ z. (cc)) (not_closes (b == 92) _ _ (escape_open bs) (not_closes (is_control b) _ _ (λ z. (cc)) (λ z. (cc)))) e
-
 element_closes : (quote b : ℕ) (bs : List ℕ) → element quote (b ∷ bs) ≡ Closes → element quote (b ∷ []) ≡ Closes
 element_closes quote b bs e = closes_by (b == quote) _ _ (behind_open b bs) e
 
@@ -225,7 +210,7 @@ at_quote b bs c s e (Some (t.Lower name)) k f (inr g) = absurd (omega arith)
 at_quote b bs c s e (Some (t.Class name)) k f g = absurd (omega arith)
 at_quote b bs c s e (Some (t.Number v base n)) k f g = absurd (omega arith)
 at_quote b bs c s e (Some (t.Char x)) k f g = absurd (omega arith)
-at_quote b bs c s e (Some (t.Text means)) k f g = (means, f.1)
+at_quote b bs c s e (Some (t.Text means)) k f g = (means, (literal_read 34 b (take k bs) means (λ z. (omega arith)) f).1)
 
 same_length : (x : Read) (bytes bytes' : List ℕ) (n n' : ℕ) → x ≡ Ok (bytes, n) → x ≡ Ok (bytes', n') → n ≡ n'
 same_length x bytes bytes' n n' e f =
@@ -239,7 +224,7 @@ text_no_longer s a b bs means n u e q (suc k) h f =
     omega (arith, m, taken bs k (omega arith))
 
 quoted : (quote b : ℕ) (bs means : List ℕ) (n : ℕ) → b ≡ quote → Whole quote 0 bs means n → IsLiteral quote means (b ∷ take n bs)
-quoted quote b bs means n u w = (u, w.2 0 1 ∙ ap (λ z. Ok (means, z)) (sym (taken bs n w.0)))
+quoted quote b bs means n u w = read_literal quote b (take n bs) means u (w.2 0 1 ∙ ap (λ z. Ok (means, z)) (sym (taken bs n w.0)))
 
 -- the text that is found is the longest form
 pub text_longest : (s a b : ℕ) (bs means : List ℕ) (n : ℕ) → b ≡ 34 → literal 34 s a 0 bs ≡ Ok (means, n) → IsLongest (Some (t.Text means)) (suc n) (b ∷ bs)
@@ -259,7 +244,7 @@ at_mark b bs c s e (Some (t.Lower name)) k f (inl g) = absurd (omega arith)
 at_mark b bs c s e (Some (t.Lower name)) k f (inr g) = absurd (omega arith)
 at_mark b bs c s e (Some (t.Class name)) k f g = absurd (omega arith)
 at_mark b bs c s e (Some (t.Number v base n)) k f g = absurd (omega arith)
-at_mark b bs c s e (Some (t.Char x)) k f g = (x ∷ [], f.1)
+at_mark b bs c s e (Some (t.Char x)) k f g = (x ∷ [], (literal_read 39 b (take k bs) (x ∷ []) (λ z. (omega arith)) f).1)
 at_mark b bs c s e (Some (t.Text means)) k f g = absurd (omega arith)
 
 character_no_longer : (b : ℕ) (bs means : List ℕ) (n : ℕ) → b ≡ 39 → literal 39 0 1 0 bs ≡ Ok (means, n) → NoLonger (suc n) (b ∷ bs)

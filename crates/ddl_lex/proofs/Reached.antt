@@ -5,9 +5,11 @@ use Rattle.ddl_token.specs.declared.token.Tok.{Tok}
 use Rattle.ddl_token.specs.declared.token.Token.{Token}
 use Rattle.ddl_lex.specs.declared.error.LexError.{LexError}
 use Rattle.ddl_lex.specs.declared.error.LexError.TheVariants.{NoMemory, BadByte, OpenText, BadEscape, NumberTooWide, TooManyTokens}
-use Rattle.ddl_lex.specs.Tokens.{Cut, begin, more, HasError, stands, place_at, with_token}
+use Rattle.ddl_lex.specs.Tokens.{Cut, begin, more, HasError, place_at, with_token}
+use Rattle.ddl_lex.proofs.Standing.{stands}
 use Rattle.ddl_lex.specs.Only.{OneList, NoTokensWithError, OneError}
 use Rattle.ddl_lex.proofs.Stands.{stands_right}
+use Rattle.ddl_lex.proofs.Erring.{error_stands}
 use Rattle.ddl_lex.proofs.Longest.{Found}
 
 -- the tokens before a place, and the place
@@ -96,11 +98,11 @@ Wrong text e = (tokens : List Token) × (at : ℕ) × Cut text tokens at × (at 
 
 wrong_at : (text : List ℕ) (e : LexError) → e ≢ NoMemory → HasError text e → Wrong text e
 wrong_at text NoMemory n h = absurd (n refl)
-wrong_at text (BadByte a) n h = h
-wrong_at text (OpenText a) n h = h
-wrong_at text (BadEscape a) n h = h
-wrong_at text (NumberTooWide a) n h = h
-wrong_at text (TooManyTokens a) n h = h
+wrong_at text (BadByte a) n h = (h.0, h.1, h.2, h.3, error_stands text h.0 h.1 (BadByte a) h.3 h.4)
+wrong_at text (OpenText a) n h = (h.0, h.1, h.2, h.3, error_stands text h.0 h.1 (OpenText a) h.3 h.4)
+wrong_at text (BadEscape a) n h = (h.0, h.1, h.2, h.3, error_stands text h.0 h.1 (BadEscape a) h.3 h.4)
+wrong_at text (NumberTooWide a) n h = (h.0, h.1, h.2, h.3, error_stands text h.0 h.1 (NumberTooWide a) h.3 h.4)
+wrong_at text (TooManyTokens a) n h = (h.0, h.1, h.2, h.3, error_stands text h.0 h.1 (TooManyTokens a) h.3 h.4)
 
 pub one_list : OneList
 one_list text tokens others c d = (one_end text tokens others (length text) (length text) c (at_end text tokens) d (at_end text others)).0

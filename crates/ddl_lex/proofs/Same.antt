@@ -16,6 +16,7 @@ use Rattle.ddl_lex.specs.Marks.{mark_of}
 use Rattle.ddl_lex.specs.Numbers.{radix, value_behind}
 use Rattle.ddl_lex.specs.Literals.{literal}
 use Rattle.ddl_lex.specs.Forms.{IsForm, IsNumber, IsLongest, AllPass}
+use Rattle.ddl_lex.proofs.Contents.{literal_read}
 use Rattle.ddl_lex.proofs.Sorts.{sort, form_sort}
 
 word_read : (w : Word) → word_of (word_spelling w) ≡ Some w
@@ -142,8 +143,9 @@ same_by (Some (t.Lower x)) (Some (t.Lower y)) b bs k f g = ap (λ z. Some (t.Low
 same_by (Some (t.Class x)) (Some (t.Class y)) b bs k f g = ap (λ z. Some (t.Class z)) (f.0 ∙ sym g.0)
 same_by (Some (t.Number v x m)) (Some (t.Number w y n)) b bs k f g = same_number x y v w m n (b ∷ bs) f g
 same_by (Some (t.Char x)) (Some (t.Char y)) b bs k f g =
-    ap (λ z. Some (t.Char (get_or z 0 0))) (same_read (literal 39 0 1 0 bs) (x ∷ []) (y ∷ []) (length bs) (length bs) f.1 g.1)
-same_by (Some (t.Text x)) (Some (t.Text y)) b bs k f g = ap (λ z. Some (t.Text z)) (same_read (literal 34 0 1 0 bs) x y (length bs) (length bs) f.1 g.1)
+    ap (λ z. Some (t.Char (get_or z 0 0))) (same_read (literal 39 0 1 0 bs) (x ∷ []) (y ∷ []) (length bs) (length bs) (literal_read 39 b bs (x ∷ []) (λ z. (omega arith)) f).1 (literal_read 39 b bs (y ∷ []) (λ z. (omega arith)) g).1)
+same_by (Some (t.Text x)) (Some (t.Text y)) b bs k f g =
+    ap (λ z. Some (t.Text z)) (same_read (literal 34 0 1 0 bs) x y (length bs) (length bs) (literal_read 34 b bs x (λ z. (omega arith)) f).1 (literal_read 34 b bs y (λ z. (omega arith)) g).1)
 same_by p q b bs k f g = absurd (omega arith)
 
 pub same_form : (p q : Option Tok) (b : ℕ) (bs : List ℕ) → IsForm p (b ∷ bs) → IsForm q (b ∷ bs) → p ≡ q

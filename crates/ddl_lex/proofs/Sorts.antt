@@ -10,7 +10,8 @@ use Rattle.ddl_token.specs.declared.token.Tok.TheVariants as t
 use Rattle.ddl_token.specs.Spelling.{word_spelling, mark_spelling}
 use Rattle.ddl_lex.specs.Letters.{is_capital, is_small}
 use Rattle.ddl_lex.specs.Names.{word_of}
-use Rattle.ddl_lex.specs.Forms.{IsForm, IsName, IsHidden, IsClass, IsNoWord, IsLineComment, IsComment}
+use Rattle.ddl_lex.specs.Forms.{IsForm, IsName, IsHidden, IsClass, IsNoWord, IsLineComment}
+use Rattle.ddl_lex.specs.Nesting.{IsComment}
 use Rattle.ddl_lex.proofs.Spelled.{word_found}
 use Rattle.ddl_lex.proofs.Firsts.{class_of, begins, white_class, capital_class, small_class}
 

@@ -3,11 +3,12 @@ use Rattle.std.proofs.Common.{◌≡◌, ◌<◌, ◌⊎◌, ℕ, zero, suc, ◌
 use Rattle.std.proofs.Math.Seq.{drop-cons}
 use Rattle.ddl_token.specs.declared.token.Tok.{Tok}
 use Rattle.ddl_token.specs.declared.token.Token.{Token}
-use Rattle.ddl_lex.specs.Letters.{is_decimal}
-use Rattle.ddl_lex.specs.Pieces.{piece, next_piece, begins_token}
-use Rattle.ddl_lex.specs.Tokens.{IsPiece, HasRoom, is_full, stands}
+use Rattle.ddl_lex.specs.Letters.{is_decimal, begins_token}
+use Rattle.ddl_lex.specs.Pieces.{piece, next_piece}
+use Rattle.ddl_lex.specs.Tokens.{IsPiece, HasRoom}
+use Rattle.ddl_lex.proofs.Standing.{is_full, stands}
 use Rattle.ddl_lex.proofs.Firsts.{class_of, Begins, begins, decimal_class}
-use Rattle.ddl_lex.proofs.Namely.{either, equal_of}
+use Rattle.ddl_lex.proofs.Decided.{either, equal_of}
 use Rattle.ddl_lex.proofs.Longest.{Found, IsRight, piece_right}
 use Rattle.ddl_lex.proofs.Same.{one_longest}
 use Rattle.ddl_lex.proofs.Wrong.{piece_wrong}
@@ -19,7 +20,7 @@ found_by at b bs found n (Ok r) h right =
     let same = one_longest r.0 found r.1 n b bs (piece_right at b bs r.0 r.1 h).0 right.0 in
     ap (λ z. Ok (z, r.1)) same.0 ∙ ap (λ z. Ok (found, z)) same.1
 
-piece_found : (at b : ℕ) (bs : List ℕ) (found : Option Tok) (n : ℕ) → IsRight found n (b ∷ bs) → piece at b (b ∷ bs) ≡ Ok (found, n)
+pub piece_found : (at b : ℕ) (bs : List ℕ) (found : Option Tok) (n : ℕ) → IsRight found n (b ∷ bs) → piece at b (b ∷ bs) ≡ Ok (found, n)
 piece_found at b bs found n right = found_by at b bs found n (piece at b (b ∷ bs)) refl right
 
 -- a quote or a digit
@@ -42,7 +43,7 @@ no_token_by c (inr f) (inr (inl g)) = omega arith
 no_token_by c (inl f) (inr (inr g)) = omega arith
 no_token_by c (inr f) (inr (inr g)) = omega arith
 
-false_by : (v : Bool) → (v ≡ true → ⊥) → v ≡ false
+pub false_by : (v : Bool) → (v ≡ true → ⊥) → v ≡ false
 false_by true n = absurd (n refl)
 false_by false n = refl
 
@@ -58,7 +59,7 @@ room_by false at b text (Some tok) n h room = rw h refl
 room_by true at b text None n h room = rw ((room refl).1, h) refl
 room_by true at b text (Some tok) n h room = absurd (let x = (room refl).0 in cc)
 
-full_length : (tokens : List Token) → is_full tokens ≡ true → length tokens ≡ 2 ^ 20
+pub full_length : (tokens : List Token) → is_full tokens ≡ true → length tokens ≡ 2 ^ 20
 full_length tokens h = equal_of (length tokens) (2 ^ 20) h
 
 room_none : (tokens : List Token) (found : Option Tok) → HasRoom tokens found → is_full tokens ≡ true → found ≡ None

@@ -4,7 +4,7 @@ use Rattle.std.proofs.Math.Seq.{drop-cons}
 use Rattle.std.proofs.Math.Nat.{mul-le-mul_left}
 use Rattle.ddl_token.specs.declared.token.Base.{Base}
 use Rattle.ddl_token.specs.declared.token.Base.TheVariants.{Decimal, Hexadecimal, Binary}
-use Rattle.ddl_lex.specs.Literals.{digit_value}
+use Rattle.ddl_lex.specs.Letters.{digit_value}
 use Rattle.ddl_lex.specs.Numbers.{value_behind, radix}
 
 pub value_grows : (radix v : ℕ) (digits : List ℕ) → 0 < radix → v ≤ value_behind radix v digits

@@ -4,23 +4,26 @@ use Rattle.ddl_token.specs.declared.mark.Mark.{Mark}
 use Rattle.ddl_token.specs.declared.token.Tok.{Tok}
 use Rattle.ddl_token.specs.declared.token.Tok.TheVariants as t
 use Rattle.ddl_lex.specs.declared.error.LexError.{LexError}
-use Rattle.ddl_lex.specs.Letters.{is_white, is_decimal}
+use Rattle.ddl_lex.specs.Letters.{is_white, is_decimal, begins_with}
 use Rattle.ddl_lex.specs.Comments.{comment}
 use Rattle.ddl_lex.specs.Literals.{literal, character}
 use Rattle.ddl_lex.specs.Names.{begins_name, begins_class}
 use Rattle.ddl_lex.specs.Numbers.{number, base_of}
 use Rattle.ddl_lex.specs.Marks.{mark_of}
-use Rattle.ddl_lex.specs.Pieces.{piece, begins_with, opened, text_token, marked}
+use Rattle.ddl_lex.specs.Pieces.{piece, opened, text_token, marked}
 use Rattle.ddl_lex.specs.Forms.{IsForm, IsLongest, Fits}
 use Rattle.ddl_lex.proofs.Firsts.{class_of, Begins, begins, white_class, decimal_class}
 use Rattle.ddl_lex.proofs.Lengths.{line_byte}
+use Rattle.ddl_lex.proofs.Nested.{comment_counted}
 use Rattle.ddl_lex.proofs.Commented.{comment_more}
+use Rattle.ddl_lex.proofs.Contents.{literal_read}
 use Rattle.ddl_lex.proofs.Digits.{digits_longest, number_token, number_right, extent}
 use Rattle.ddl_lex.proofs.Quoted.{literal_more, at_quote}
 use Rattle.ddl_lex.proofs.Characters.{character_right}
-use Rattle.ddl_lex.proofs.Namely.{equal_of, white_byte, IsSign, no_form}
+use Rattle.ddl_lex.proofs.Namely.{white_byte, IsSign, no_form}
 use Rattle.ddl_lex.proofs.Longest.{Found, IsRight, by_test, two_bytes, sign_class}
 use Rattle.ddl_lex.proofs.Same.{one_longest}
+use Rattle.ddl_lex.proofs.Decided.{equal_of}
 
 -- ---- a comment that is not closed
 
@@ -28,7 +31,7 @@ comment_closed : (b d : ℕ) (ds : List ℕ) (k : ℕ) → b ≡ 123 → comment
 comment_closed b d ds k u c (inl w) = let x = white_class b (white_byte b (take k (d ∷ ds)) w) in let y : class_of b ≡ 5 = ap class_of u in omega arith
 comment_closed b d ds k u c (inr (inl l)) = omega (arith, line_byte b (take k (d ∷ ds)) l)
 comment_closed b d ds zero u c (inr (inr l)) = l
-comment_closed b d ds (suc k) u c (inr (inr l)) = let x = comment_more 0 0 ds k (length (take k ds)) l.2 in cc
+comment_closed b d ds (suc k) u c (inr (inr l)) = let x = comment_more 0 0 ds k (length (take k ds)) (comment_counted (take k ds) l.2) in cc
 
 comment_at : (b d : ℕ) (ds : List ℕ) (n : ℕ) → b ≡ 123 → comment 0 0 ds ≡ None → IsLongest None n (b ∷ d ∷ ds) → ⊥
 comment_at b d ds zero u c l = omega (arith, l.1)
@@ -68,7 +71,7 @@ at_character b bs c s e (Some (t.Lower name)) k f (inl g) = absurd (omega arith)
 at_character b bs c s e (Some (t.Lower name)) k f (inr g) = absurd (omega arith)
 at_character b bs c s e (Some (t.Class name)) k f g = absurd (omega arith)
 at_character b bs c s e (Some (t.Number v base n)) k f g = absurd (omega arith)
-at_character b bs c s e (Some (t.Char x)) k f g = (x, f.1)
+at_character b bs c s e (Some (t.Char x)) k f g = (x, (literal_read 39 b (take k bs) (x ∷ []) (λ z. (omega arith)) f).1)
 at_character b bs c s e (Some (t.Text means)) k f g = absurd (omega arith)
 
 character_wrong : (at b : ℕ) (bs : List ℕ) (found : Option Tok) (n : ℕ) (e : LexError) → b ≡ 39 → character at bs ≡ Err e → IsLongest found n (b ∷ bs) → ⊥

@@ -1,18 +1,11 @@
--- Comments.
-use Rattle.std.specs.Prelude.{ℕ, zero, suc, Bool, ◌&&◌, ◌||◌, ◌==◌, if◌then◌else◌, List, [], ◌∷◌, Option, Some, None}
+-- How many bytes a comment has.
+use Rattle.std.specs.Prelude.{ℕ, zero, suc, ◌||◌, if◌then◌else◌, List, [], ◌∷◌, Option, Some, None}
+use Rattle.ddl_lex.specs.Nesting.{opens, ends}
 
 -- one byte more
 abbrev pub one_more : Option ℕ → Option ℕ
 one_more None = None
 one_more (Some n) = Some (suc n)
-
--- `{-` opens a comment
-abbrev pub opens : ℕ → ℕ → Bool
-opens a b = a == 123 && b == 45
-
--- `-}` ends one
-abbrev pub ends : ℕ → ℕ → Bool
-ends a b = a == 45 && b == 125
 
 -- The bytes to the end of a comment, inside as many further comments as depth says. The byte before
 -- is 0 where it belongs to a `{-` or `-}` already.

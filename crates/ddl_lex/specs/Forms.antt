@@ -1,5 +1,5 @@
 -- The forms of tokens, white space and comments, apart from how they are found.
-use Rattle.std.specs.Prelude.{◌≡◌, ◌≢◌, ◌⊎◌, ◌<◌, ◌≤◌, ◌^◌, ℕ, Bool, true, List, [], ◌∷◌, ◌++◌, length, take, Option, Some, None, Ok}
+use Rattle.std.specs.Prelude.{◌≡◌, ◌≢◌, ◌⊎◌, ◌<◌, ◌≤◌, ◌^◌, ℕ, Bool, true, List, [], ◌∷◌, ◌++◌, length, take, Option, Some, None}
 use Rattle.ddl_token.specs.declared.word.Word.{Word}
 use Rattle.ddl_token.specs.declared.token.Tok.{Tok}
 use Rattle.ddl_token.specs.declared.token.Tok.TheVariants as t
@@ -7,8 +7,8 @@ use Rattle.ddl_token.specs.declared.token.Base.{Base}
 use Rattle.ddl_token.specs.declared.token.Base.TheVariants.{Decimal, Hexadecimal, Binary}
 use Rattle.ddl_token.specs.Spelling.{word_spelling, mark_spelling}
 use Rattle.ddl_lex.specs.Letters.{is_capital, is_small, is_name, is_white, in_line}
-use Rattle.ddl_lex.specs.Comments.{comment}
-use Rattle.ddl_lex.specs.Literals.{literal}
+use Rattle.ddl_lex.specs.Nesting.{IsComment}
+use Rattle.ddl_lex.specs.Elements.{IsLiteral}
 use Rattle.ddl_lex.specs.Numbers.{is_digit_of, radix, value_behind}
 
 -- each byte passes the test
@@ -41,11 +41,6 @@ abbrev pub IsLineComment : List ℕ → Type 0
 IsLineComment (a ∷ b ∷ bs) = (a ≡ 45) × (b ≡ 45) × AllPass in_line bs
 IsLineComment _ = ⊥
 
--- `{-`, and then the comment ends where the bytes end
-abbrev pub IsComment : List ℕ → Type 0
-IsComment (a ∷ b ∷ bs) = (a ≡ 123) × (b ≡ 45) × (comment 0 0 bs ≡ Some (length bs))
-IsComment _ = ⊥
-
 -- no word is spelled so
 abbrev pub IsNoWord : List ℕ → Type 0
 IsNoWord bytes = (w : Word) → word_spelling w ≢ bytes
@@ -60,11 +55,6 @@ base_spelling Binary = 48 ∷ 98 ∷ []
 abbrev pub IsNumber : ℕ → Base → ℕ → List ℕ → Type 0
 IsNumber value base count bytes = (digits : List ℕ) × (bytes ≡ base_spelling base ++ digits) × AllPass (is_digit_of base) digits
     × (count ≡ length digits) × (0 < count) × (value ≡ value_behind (radix base) 0 digits)
-
--- a quote, and then what means these bytes up to the closing quote, where the bytes end
-abbrev pub IsLiteral : ℕ → List ℕ → List ℕ → Type 0
-IsLiteral quote means [] = ⊥
-IsLiteral quote means (b ∷ bs) = (b ≡ quote) × (literal quote 0 1 0 bs ≡ Ok (means, length bs))
 
 -- the bytes are white space, a comment or this token
 abbrev pub IsForm : Option Tok → List ℕ → Type 0

@@ -1,5 +1,6 @@
 pub mod Brackets
 pub mod Comments
+pub mod Elements
 pub mod Forms
 pub mod Gives
 pub mod Layout
@@ -7,8 +8,10 @@ pub mod Letters
 pub mod Literals
 pub mod Marks
 pub mod Names
+pub mod Nesting
 pub mod Numbers
 pub mod Only
 pub mod Pieces
 pub mod Places
 pub mod Tokens
+pub mod Wrong

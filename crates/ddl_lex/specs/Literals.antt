@@ -1,20 +1,12 @@
 -- The inside of texts and characters.
-use Rattle.std.specs.Prelude.{ℕ, zero, suc, ◌+◌, ◌-◌, ◌*◌, Bool, ◌&&◌, ◌||◌, ◌==◌, nat_lt, if◌then◌else◌, List, [], ◌∷◌, length, ◌<◌, ◌≤◌, slice_index, Option, Some, Result, Ok, Err}
+use Rattle.std.specs.Prelude.{ℕ, zero, suc, ◌+◌, ◌-◌, ◌*◌, ◌&&◌, ◌||◌, ◌==◌, if◌then◌else◌, List, [], ◌∷◌, length, ◌<◌, ◌≤◌, slice_index, Option, Some, Result, Ok, Err}
 use Rattle.ddl_token.specs.declared.token.Tok.{Tok}
 use Rattle.ddl_token.specs.declared.token.Tok.TheVariants.{Char}
 use Rattle.ddl_lex.specs.declared.error.LexError.{LexError}
 use Rattle.ddl_lex.specs.declared.error.LexError.TheVariants.{BadByte, OpenText, BadEscape}
 use Rattle.ddl_lex.specs.declared.literal.Element.{Element}
 use Rattle.ddl_lex.specs.declared.literal.Element.TheVariants.{Means, Closes, Ends, Control, NoEscape}
-use Rattle.ddl_lex.specs.Letters.{is_decimal, is_control, between}
-
--- a hexadecimal digit, of either size
-abbrev pub is_hexadecimal : ℕ → Bool
-is_hexadecimal b = is_decimal b || between 65 70 b || between 97 102 b
-
--- what a digit counts
-abbrev pub digit_value : ℕ → ℕ
-digit_value b = if nat_lt b 65 then b - 48 else (if nat_lt b 97 then b - 55 else b - 87)
+use Rattle.ddl_lex.specs.Letters.{is_control, is_hexadecimal, digit_value}
 
 -- `\x` and two hexadecimal digits: the byte of that number
 abbrev pub hexadecimal_escape : List ℕ → Element

@@ -6,8 +6,7 @@ use Rattle.ddl_token.specs.declared.token.Base.{Base}
 use Rattle.ddl_token.specs.declared.token.Base.TheVariants.{Decimal, Hexadecimal, Binary}
 use Rattle.ddl_lex.specs.declared.error.LexError.{LexError}
 use Rattle.ddl_lex.specs.declared.error.LexError.TheVariants.{NumberTooWide}
-use Rattle.ddl_lex.specs.Letters.{is_decimal, between, run}
-use Rattle.ddl_lex.specs.Literals.{is_hexadecimal, digit_value}
+use Rattle.ddl_lex.specs.Letters.{is_decimal, is_hexadecimal, digit_value, between, run}
 
 -- how much a digit counts more than the digit behind it
 abbrev pub radix : Base → ℕ

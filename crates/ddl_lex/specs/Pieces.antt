@@ -1,22 +1,17 @@
 -- What stands at a place of a text.
-use Rattle.std.specs.Prelude.{ℕ, suc, ◌+◌, Bool, false, ◌&&◌, ◌||◌, ◌==◌, if◌then◌else◌, List, ◌∷◌, length, drop, Option, Some, None, Result, Ok, Err}
+use Rattle.std.specs.Prelude.{ℕ, suc, ◌+◌, Bool, ◌&&◌, ◌==◌, if◌then◌else◌, List, length, drop, Option, Some, None, Result, Ok, Err}
 use Rattle.ddl_token.specs.declared.mark.Mark.{Mark}
 use Rattle.ddl_token.specs.declared.token.Tok.{Tok}
 use Rattle.ddl_token.specs.declared.token.Tok.TheVariants as t
 use Rattle.ddl_token.specs.Spelling.{mark_spelling}
 use Rattle.ddl_lex.specs.declared.error.LexError.{LexError}
 use Rattle.ddl_lex.specs.declared.error.LexError.TheVariants.{BadByte, OpenText, TooManyTokens}
-use Rattle.ddl_lex.specs.Letters.{is_white, in_line, is_decimal, is_name, run}
+use Rattle.ddl_lex.specs.Letters.{is_white, in_line, is_decimal, is_name, begins_with, begins_token, run}
 use Rattle.ddl_lex.specs.Comments.{comment}
 use Rattle.ddl_lex.specs.Literals.{literal, character}
 use Rattle.ddl_lex.specs.Names.{begins_name, begins_class, named, class}
 use Rattle.ddl_lex.specs.Numbers.{number}
 use Rattle.ddl_lex.specs.Marks.{mark_of}
-
--- two bytes with which a text begins
-abbrev pub begins_with : ℕ → ℕ → List ℕ → Bool
-begins_with a b (c ∷ d ∷ _) = c == a && d == b
-begins_with a b _ = false
 
 -- a comment that was opened: `{-` and the bytes to its end
 abbrev pub opened : ℕ → Option ℕ → Result (Option Tok × ℕ) LexError
@@ -46,10 +41,6 @@ piece at b text =
     else (if begins_class text then Ok (class (suc (run is_name (drop 1 text))) text)
     else (if is_decimal b then number at text
     else marked at (mark_of text))))))))
-
--- a literal or a number begins with the byte, whether it can be read or not
-abbrev pub begins_token : ℕ → Bool
-begins_token b = b == 34 || b == 39 || is_decimal b
 
 -- no token more where there are as many as there may be
 abbrev pub one_more_token : Bool → ℕ → Result (Option Tok × ℕ) LexError → Result (Option Tok × ℕ) LexError

@@ -1,21 +1,14 @@
 -- The tokens of a text.
-use Rattle.std.specs.Prelude.{◌≡◌, ◌<◌, ℕ, ◌+◌, ◌==◌, ◌^◌, Bool, true, List, [], ◌∷◌, ◌++◌, length, drop, slice_index, Option, Some, None, Result, Err}
+use Rattle.std.specs.Prelude.{◌≡◌, ◌⊎◌, ◌<◌, ℕ, ◌+◌, ◌^◌, true, false, List, [], ◌∷◌, ◌++◌, length, drop, slice_index, Option, Some, None}
 use Rattle.ddl_token.specs.declared.token.Tok.{Tok}
 use Rattle.ddl_token.specs.declared.token.Token.{Token}
 use Rattle.ddl_lex.specs.declared.error.LexError.{LexError}
-use Rattle.ddl_lex.specs.declared.error.LexError.TheVariants.{NoMemory}
+use Rattle.ddl_lex.specs.declared.error.LexError.TheVariants.{NoMemory, TooManyTokens}
 use Rattle.ddl_lex.specs.declared.place.Place.{Place}
-use Rattle.ddl_lex.specs.Pieces.{next_piece, begins_with}
+use Rattle.ddl_lex.specs.Letters.{begins_with, begins_token}
 use Rattle.ddl_lex.specs.Forms.{IsLongest, Fits}
+use Rattle.ddl_lex.specs.Wrong.{IsWrong}
 use Rattle.ddl_lex.specs.Places.{line_at, column_at}
-
--- there are as many tokens as there may be: 2^20
-abbrev pub is_full : List Token → Bool
-is_full tokens = length tokens == 2 ^ 20
-
--- what stands at a place behind these tokens
-abbrev pub stands : List ℕ → List Token → ℕ → Result (Option Tok × ℕ) LexError
-stands text tokens at = next_piece (is_full tokens) at (slice_index text at) (drop at text)
 
 -- where a place is in bytes, and by line and column
 abbrev pub place_at : List ℕ → ℕ → Place
@@ -42,7 +35,18 @@ pub data Cut : List ℕ → List Token → ℕ → Type 0 where
   more : {text : List ℕ} {tokens : List Token} {at : ℕ} (found : Option Tok) (n : ℕ) → Cut text tokens at → at < length text →
       IsPiece text tokens at found n → Cut text (with_token tokens (place_at text at) (at + n) found) (at + n)
 
+-- a token begins the text: a literal or a number, whether it can be read or not, or another one that is the longest form
+abbrev pub BeginsToken : List ℕ → Type 0
+BeginsToken text = (begins_token (slice_index text 0) ≡ true)
+    ⊎ ((tok : Tok) × (n : ℕ) × IsLongest (Some tok) n text × (begins_with 123 45 text ≡ false))
+
+-- What is wrong behind these tokens: that there are 2^20 and one more begins, ahead of what is wrong with it;
+-- or what is wrong with what begins there.
+pub data IsError (tokens : List Token) (at : ℕ) (text : List ℕ) : LexError → Type 0 where
+  too_many : length tokens ≡ 2 ^ 20 → BeginsToken text → IsError tokens at text (TooManyTokens at)
+  is_wrong : {e : LexError} → (length tokens ≡ 2 ^ 20 → begins_token (slice_index text 0) ≡ false) → IsWrong at text e → IsError tokens at text e
+
 -- the text has an error, behind all that is cut before it
 abbrev pub HasError : List ℕ → LexError → Type 0
 HasError text NoMemory = Unit {0}
-HasError text e = (tokens : List Token) × (at : ℕ) × Cut text tokens at × (at < length text) × (stands text tokens at ≡ Err e)
+HasError text e = (tokens : List Token) × (at : ℕ) × Cut text tokens at × (at < length text) × IsError tokens at (drop at text) e

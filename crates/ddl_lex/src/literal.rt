@@ -1,4 +1,5 @@
 ghost use Rattle.std.specs.Prelude.{◌≡◌, ◌<◌, ◌≤◌, length, true, ◌∷◌};
+ghost use Rattle.ddl_lex.specs.Letters as letters;
 ghost use Rattle.ddl_lex.specs.Literals as literals;
 
 use crate::letters::is_control;
@@ -20,8 +21,8 @@ pub enum Element {
 
 /// What a digit counts, of a hexadecimal number too.
 pub(crate) fn digit_value(digit: u8) -> u8
-    ensures value { result ≡ literals.digit_value digit }
-    ensures small { literals.is_hexadecimal digit ≡ true → result < 16 }
+    ensures value { result ≡ letters.digit_value digit }
+    ensures small { letters.is_hexadecimal digit ≡ true → result < 16 }
 {
     match digit {
         b'a'.. => digit - b'a' + 10,

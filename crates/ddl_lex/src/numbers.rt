@@ -1,6 +1,6 @@
 ghost use Rattle.std.specs.Prelude.{◌≡◌, ◌<◌, ◌≤◌, ◌+◌, ◌*◌, ◌^◌, length, IfOk, IfSome, IsNone, true, slice_index, take};
 ghost use Rattle.ddl_lex.specs.Letters.{run, is_decimal};
-ghost use Rattle.ddl_lex.specs.Literals.{digit_value as digit_value'};
+ghost use Rattle.ddl_lex.specs.Letters.{digit_value as digit_value'};
 ghost use Rattle.ddl_lex.specs.Numbers as numbers;
 
 use crate::LexError;

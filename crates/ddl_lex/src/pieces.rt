@@ -1,5 +1,6 @@
 ghost use Rattle.std.specs.Prelude.{◌≡◌, ◌<◌, ◌≤◌, ◌+◌, ◌^◌, length, drop, IfOk, IsTrue, true, Some, None, slice_get};
 ghost use Rattle.ddl_lex.specs.Gives.{Gives};
+ghost use Rattle.ddl_lex.specs.Letters.{begins_with};
 ghost use Rattle.ddl_lex.specs.Comments.{comment};
 ghost use Rattle.ddl_lex.specs.Literals.{literal, character};
 ghost use Rattle.ddl_lex.specs.Marks.{mark_of};
@@ -17,14 +18,14 @@ use std::alloc::Global;
 
 /// Whether a comment to the end of the line begins.
 fn begins_line_comment(text: &[u8]) -> bool
-    ensures { result ≡ pieces.begins_with 45 45 text.now }
+    ensures { result ≡ begins_with 45 45 text.now }
 {
     matches!(text, [b'-', b'-', ..])
 }
 
 /// Whether a comment that nests begins.
 fn begins_comment(text: &[u8]) -> bool
-    ensures value { result ≡ pieces.begins_with 123 45 text.now }
+    ensures value { result ≡ begins_with 123 45 text.now }
     ensures long { IsTrue result → 2 ≤ length text.now }
 {
     matches!(text, [b'{', b'-', ..])

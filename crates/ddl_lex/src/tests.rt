@@ -42,6 +42,15 @@ fn shown(alloc: Global, tokens: &[Token], text: &[u8]) -> Result<Vec<u8>, Fail> 
     Ok(shown)
 }
 
+/// The line, the column and the range of bytes of each token.
+fn places(alloc: Global, tokens: &[Token]) -> Result<Vec<(u32, u32, u32, u32)>, Fail> {
+    let mut places = Vec::new(alloc);
+    for token in tokens {
+        places.push((token.line, token.col, token.from, token.to))?;
+    }
+    Ok(places)
+}
+
 #[test]
 fn texts_are_cut_by_longest_match(rt: HostRuntime) -> Result<(), Fail> {
     let alloc = rt.alloc();
@@ -92,7 +101,7 @@ fn texts_are_cut_by_longest_match(rt: HostRuntime) -> Result<(), Fail> {
 #[test]
 fn the_first_error_is_told(rt: HostRuntime) {
     let alloc = rt.alloc();
-    let rows: [(&[u8], LexError); 19] = [
+    let rows: [(&[u8], LexError); 21] = [
         (
             b"def Main = ^ 340282366920938463463374607431768211456",
             LexError::NumberTooWide(13),
@@ -101,12 +110,14 @@ fn the_first_error_is_told(rt: HostRuntime) {
         (b"def Main = \"ab", LexError::OpenText(11)),
         (b"def Main = \"\\q\"", LexError::BadEscape(12)),
         (b"a {- {- -}", LexError::OpenText(2)),
+        (b"{-", LexError::OpenText(0)),
         (b"{-}", LexError::OpenText(0)),
         (b"''", LexError::OpenText(0)),
         (b"'ab'", LexError::OpenText(0)),
         (b"'a\\q'", LexError::OpenText(0)),
         (b"'", LexError::OpenText(0)),
         (b"'\n'", LexError::OpenText(0)),
+        (b"'\x01'", LexError::BadByte(1)),
         (b"\"a\nb\"", LexError::OpenText(0)),
         (b"\"a\x01\\q", LexError::BadByte(2)),
         (b"\"a\x7f\"", LexError::BadByte(2)),
@@ -145,12 +156,35 @@ fn literals_have_their_bytes(rt: HostRuntime) -> Result<(), Fail> {
 fn lines_and_columns_count_tabs(rt: HostRuntime) -> Result<(), Fail> {
     let alloc = rt.alloc();
     let tokens = lexed(alloc, b"a\tb\n \t  c {- \n\t-}d")?;
-    let mut places = Vec::new(alloc);
-    for token in tokens.as_slice() {
-        places.push((token.line, token.col, token.from, token.to))?;
-    }
     let want = [(0, 0, 0, 1), (0, 8, 2, 3), (1, 10, 8, 9), (2, 10, 17, 18)];
-    assert_eq!(rt; places.as_slice(), want.as_slice());
+    assert_eq!(rt;
+        places(alloc, tokens.as_slice())?.as_slice(),
+        want.as_slice()
+    );
+    Ok(())
+}
+
+#[test]
+fn tokens_and_added_marks_have_their_places(rt: HostRuntime) -> Result<(), Fail> {
+    let alloc = rt.alloc();
+    let rows: [(&[u8], &[u8], &[(u32, u32, u32, u32)]); 2] = [
+        (
+            b"def Main =",
+            b"wdef UMain m= ",
+            &[(0, 0, 0, 3), (0, 4, 4, 8), (0, 9, 9, 10)],
+        ),
+        // What is added has no bytes; it stands at the token behind it, or at the end of the last one.
+        (
+            b"block\n  a",
+            b"wblock m{ la m} ",
+            &[(0, 0, 0, 5), (1, 2, 8, 8), (1, 2, 8, 9), (1, 2, 9, 9)],
+        ),
+    ];
+    for (text, want, wanted_places) in rows {
+        let laid = layout(alloc, lexed(alloc, text)?)?;
+        assert_eq!(rt; shown(alloc, laid.as_slice(), text)?.as_slice(), want);
+        assert_eq!(rt; places(alloc, laid.as_slice())?.as_slice(), wanted_places);
+    }
     Ok(())
 }
 
@@ -160,6 +194,12 @@ fn a_text_has_at_most_a_million_tokens(rt: HostRuntime) -> Result<(), Fail> {
     let mut text = Vec::new(alloc);
     text.resize(1 << 20, b';')?;
     assert_eq!(rt; lexed(alloc, text.as_slice())?.len(), 1 << 20);
+    text.push(b';')?;
+    assert_eq!(rt;
+        error_of(alloc, text.as_slice()),
+        Some(LexError::TooManyTokens(1048576))
+    );
+    text.pop();
     text.extend_from_slice(b" --")?;
     assert_eq!(rt; error_of(alloc, text.as_slice()), None);
     text.extend_from_slice(b"\n\"")?;
@@ -173,11 +213,16 @@ fn a_text_has_at_most_a_million_tokens(rt: HostRuntime) -> Result<(), Fail> {
 #[test]
 fn lists_are_laid_out(rt: HostRuntime) -> Result<(), Fail> {
     let alloc = rt.alloc();
-    let rows: [(&[u8], &[u8]); 9] = [
+    let rows: [(&[u8], &[u8]); 10] = [
         // An item for each line of one column, and the end by a smaller one.
         (
             b"d = block\n  a\n  b\nc",
             b"ld m= wblock m{ la m; lb m} lc ",
+        ),
+        // A tab reaches the column of eight spaces.
+        (
+            b"def Main = (block\n\tUInt8\n        UInt8)",
+            b"wdef UMain m= m( wblock m{ UUInt8 m; UUInt8 m} m) ",
         ),
         // An empty list at the end.
         (b"d = block", b"ld m= wblock m{ m} "),

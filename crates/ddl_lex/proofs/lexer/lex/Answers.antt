@@ -1,7 +1,10 @@
-use Rattle.std.proofs.Common.{◌≡◌, ◌+◌, ◌^◌, length, take, drop, ap, ◌∙◌, ◌==◌, sym, arith, length-drop, subst, Ok, rules}
+use Rattle.std.proofs.Common.{◌≡◌, ◌+◌, ◌^◌, length, take, drop, ap, ◌∙◌, ◌==◌, sym, arith, length-drop, subst, ◌<◌, Ok, Err, rules}
 use Rattle.std.proofs.lemmas.List.{drop-drop}
+use Rattle.ddl_lex.specs.Gives.{Gives}
 use Rattle.ddl_lex.specs.Pieces.{next_piece}
-use Rattle.ddl_lex.specs.Tokens.{is_full, with_token}
+use Rattle.ddl_lex.specs.Tokens.{with_token}
+use Rattle.ddl_lex.proofs.Standing.{is_full}
+use Rattle.ddl_lex.proofs.Erring.{has_error}
 use Rattle.ddl_lex.proofs.Cutting.{cut_nothing, cut_more, few_more, line_more, column_more}
 use Rattle.ddl_lex.proofs.lexer.lex.Goals as goal
 
@@ -42,3 +45,19 @@ loop-first-preserved c =
       line_fits = c.behind-end.ensures.line_fits;
       column_fits = c.behind-end.ensures.column_fits;
     }
+
+pub returns-in_err-found-clause-error : goal.returns-in_err-found-clause-error
+returns-in_err-found-clause-error c =
+    let known = c.loop-first.invariant in
+    let text = c.args.text.now in
+    let at = c.loop-first.place.at in
+    let tokens = c.loop-first.tokens.items in
+    let rest = c.loop-first.rest.now in
+    let first = c.in-Some.first.now in
+    let full : (c.len-full.result == 2 ^ 20) ≡ is_full tokens =
+    let len : c.len-full.result ≡ length tokens = search rules in
+    ap (λ k. k == 2 ^ 20) len in
+    let there : Gives (next_piece (is_full tokens) at first rest) (Err c.in_err-found.field-0.0) = subst (λ b. Gives (next_piece b at first rest) (Err c.in_err-found.field-0.0)) full c.in_err-found.ensures.value in
+    let within : at < length text = omega (arith, c.in-Some.ensures.item.3.0, ap length known.left, length-drop at text) in
+    let wrong = has_error text rest tokens at first c.in_err-found.field-0.0 known.cut within known.left (c.in-Some.ensures.item.3.1 0) there in
+    search rules
