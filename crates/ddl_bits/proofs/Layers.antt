@@ -1,6 +1,6 @@
 -- Each view at one level of a layout.
 use Rattle.std.proofs.Common.{◌≡◌, ℕ, ◌<◌, ◌≤◌, List, [], ◌∷◌, length, get_or, refl, ap, sym, ◌∙◌, arith, rules}
-use Rattle.ddl_bits.specs.Tree.{fixed, any, cons_width, parts_width}
+use Rattle.ddl_bits.specs.Tree.{fixed, any, inner, cons_width, parts_width}
 use Rattle.ddl_bits.specs.declared.layout.Layout.{Layout, out-Layout, the_lemmas}
 use Rattle.ddl_bits.specs.declared.layout.LayoutCon.{LayoutCon, out-LayoutCon}
 use Rattle.ddl_bits.specs.declared.layout.LayoutPart.{LayoutPart, LayoutPart-F, out-LayoutPart, roll-LayoutPart, roll-out-LayoutPart}
@@ -32,6 +32,10 @@ view_fixed bits width = search (rules, the_lemmas)
 pub view_any : (name : _) (width : ℕ) → part_view (part_of.Any name width) ≡ any width
 unfolding part_view layout_view con_view
 view_any name width = search (rules, the_lemmas)
+
+pub view_inner : (name : _) (layout : _) → part_view (part_of.Inner name layout) ≡ inner (layout_view layout.value)
+unfolding part_view layout_view con_view
+view_inner name layout = search (rules, the_lemmas)
 
 pub ruleset layers = (part_view_out, con_view_out, layout_view_out, the_lemmas)
 

@@ -1,8 +1,10 @@
 pub mod BelowSteps
+pub mod Built
 pub mod CountSteps
 pub mod Counting
 pub mod GivenBits
 pub mod Layers
+pub mod Mixing
 pub mod Pairs
 pub mod Searching
 pub mod Sized

@@ -66,6 +66,17 @@ pow_half b h =
     let split : 2 ^ ((b - 1) + 1) ≡ 2 ^ (b - 1) * 2 ^ 1 = pow-add 2 (b - 1) 1 in
     ap (λ n. 2 ^ n) e ∙ omega (arith, split)
 
+-- the lower half of an aligned range is aligned, and so is the upper
+pub lower_aligned : (from b p : ℕ) → b ≢ 0 → from ≡ p * 2 ^ b → from ≡ (2 * p) * 2 ^ (b - 1)
+lower_aligned from b p h e =
+    let half : p * 2 ^ b ≡ p * (2 ^ (b - 1) + 2 ^ (b - 1)) = ap (λ n. p * n) (pow_half b h) in
+    omega (arith, e, half)
+
+pub upper_aligned : (from b p step : ℕ) → b ≢ 0 → from ≡ p * 2 ^ b → step ≡ 2 ^ (b - 1) → from + step ≡ (2 * p + 1) * 2 ^ (b - 1)
+upper_aligned from b p step h e is =
+    let half : p * 2 ^ b ≡ p * (2 ^ (b - 1) + 2 ^ (b - 1)) = ap (λ n. p * n) (pow_half b h) in
+    omega (arith, e, half, is)
+
 -- none in the lower half, and what is found in the upper
 pub upper_half : (test : ℕ → Bool) (from middle start end to : ℕ) (r : Option ℕ) → middle ≡ start → end ≡ to → ((n : ℕ) → from ≤ n → n < middle → test n ≡ false) → from ≤ middle → IsLeastBetween test start end r → IsLeastBetween test from to r
 upper_half test from middle start end to None e f none order found =

@@ -1,11 +1,12 @@
 -- One step over the parts of a constructor, or over the constructors of a layout.
-use Rattle.std.proofs.Common.{◌≡◌, ℕ, ◌+◌, ◌-◌, ◌*◌, ◌/◌, ◌%◌, ◌^◌, ◌<◌, ◌≤◌, Bool, true, false, eqb, ltb, List, length, get_or, drop, bit_and, Option, Some, None, if◌then◌else◌, min, ap, subst, sym, ◌∙◌, refl, inl, inr, arith}
+use Rattle.std.proofs.Common.{◌≡◌, ℕ, ◌+◌, ◌-◌, ◌*◌, ◌/◌, ◌%◌, ◌^◌, ◌<◌, ◌≤◌, Bool, true, false, eqb, ltb, List, [], ◌∷◌, length, get_or, drop, bit_and, Option, Some, None, if◌then◌else◌, min, ap, subst, sym, ◌∙◌, refl, inl, inr, arith}
 use Rattle.std.proofs.Math.Nat.{div-eq_of_lt}
 use Rattle.std.proofs.lemmas.List.{at_drop_more}
 use Rattle.std.proofs.lemmas.Nat.{pow_pos, shr_split, mod_below, one_shl, and_mask}
 use Rattle.std.proofs.lemmas.Bool.{cases_lt, lt-ltb, le-ltb, eq-eqb, ne_eqb, ltb-false}
 use Rattle.ddl_bits.specs.declared.layout.LayoutCon.{LayoutCon}
 use Rattle.ddl_bits.specs.declared.layout.LayoutPart.{LayoutPart}
+use Rattle.ddl_bits.specs.Cuts.{cons_cut}
 use Rattle.ddl_bits.specs.Tree.{Part, fixed, any, inner, Parts, part, Cons, no_cons, con, cons_width, too_wide_from, other_width_from, part_width, parts_width, PartSized, PartsSized, ConsSized}
 use Rattle.ddl_bits.specs.View.{part_view, con_view, parts_view, cons_view}
 use Rattle.ddl_bits.specs.Widths.{width_unless_other, width_unless_too_wide, one_width_of}
@@ -79,3 +80,18 @@ one_width_found cons width other none is found =
     ap (width_unless_other width) found
     ∙ ap (λ w. width_unless_other w (other_width_from w 0 cons)) e
     ∙ sym (ap (width_unless_too_wide cons) none)
+
+-- a layout of no constructor, of one, and of more
+pub no_con : (xs : List LayoutCon) → length xs < 1 → cons_view xs ≡ no_cons
+no_con [] h = refl
+no_con (c ∷ cs) h = absurd (omega arith)
+
+pub only_con : (xs : List LayoutCon) (c : LayoutCon) → length xs ≡ 1 → c ≡ get_or xs 0 c → cons_view xs ≡ con (con_view c) no_cons
+only_con [] c h is = absurd (omega arith)
+only_con (x ∷ []) c h is = ap (λ y. con (con_view y) no_cons) (sym is)
+only_con (x ∷ y ∷ ys) c h is = absurd (omega arith)
+
+pub not_cut : (xs : List LayoutCon) (place : ℕ) → 2 ≤ length xs → cons_cut (cons_view xs) place ≡ false
+not_cut [] place h = absurd (omega arith)
+not_cut (x ∷ []) place h = absurd (omega arith)
+not_cut (x ∷ y ∷ ys) place h = refl

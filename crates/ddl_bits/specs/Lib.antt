@@ -1,6 +1,7 @@
 pub mod Accepted
 pub mod Counts
 pub mod Covered
+pub mod Cuts
 pub mod FixedBits
 pub mod Overlaps
 pub mod Tree

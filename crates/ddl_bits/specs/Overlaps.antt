@@ -1,5 +1,7 @@
 -- Which constructors have a number in common, and which numbers are left out.
 use Rattle.std.specs.Prelude.{◌≡◌, ℕ, zero, suc, ◌<◌, ◌≤◌, Bool, true, false, ◌&&◌, not, Option, Some, None, refl}
+use Rattle.ddl_bits.specs.declared.common.Search.{Search}
+use Rattle.ddl_bits.specs.declared.common.Search.TheVariants.{Number, NoneHere, NoneAtAll}
 use Rattle.ddl_bits.specs.Tree.{Parts, part, no_parts, fixed, any, Cons, no_cons, con, parts_fit, cons_fit, IsLeast}
 
 -- whether a number fits the constructor at this place, counted from 0
@@ -40,6 +42,12 @@ IsLeastIfAny test (Some n) = IsLeast test n
 abbrev pub IsLeastBetween : (ℕ → Bool) → ℕ → ℕ → Option ℕ → Type 0
 IsLeastBetween test from to None = (n : ℕ) → from ≤ n → n < to → test n ≡ false
 IsLeastBetween test from to (Some n) = (from ≤ n) × (n < to) × (test n ≡ true) × ((k : ℕ) → from ≤ k → k < n → test k ≡ false)
+
+-- the answer is the least number of such a range, or says that it has none, or that there is none at all
+abbrev pub IsSearched : (ℕ → Bool) → ℕ → ℕ → Search → Type 0
+IsSearched test from to (Number n) = IsLeastBetween test from to (Some n)
+IsSearched test from to NoneHere = IsLeastBetween test from to None
+IsSearched test from to NoneAtAll = (n : ℕ) → test n ≡ false
 
 -- the answer says whether the test holds for no number from one on, up to another
 abbrev pub HasNone : (ℕ → Bool) → ℕ → ℕ → Bool → Type 0

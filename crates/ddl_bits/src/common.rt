@@ -1,13 +1,25 @@
 ghost use Rattle.ddl_bits.specs.Accepted.{PartsAccepted};
-ghost use Rattle.ddl_bits.specs.Overlaps.{parts_both, HasNone, IsLeastBetween, IsLeastIfAny};
+ghost use Rattle.ddl_bits.specs.Overlaps.{parts_both, HasNone, IsLeastIfAny, IsSearched};
 ghost use Rattle.ddl_bits.specs.Tree.{parts_fit, parts_width};
 ghost use Rattle.ddl_bits.specs.View.{parts_view};
-ghost use Rattle.std.specs.Prelude.{◌≡◌, ◌+◌, ◌≤◌, ◌^◌};
+ghost use Rattle.std.specs.Prelude.{◌≡◌, ℕ, ◌+◌, ◌*◌, ◌≤◌, ◌^◌};
 
 use crate::below::parts_below;
 use crate::clash::are_told_apart;
+use crate::cuts::parts_cut;
 use crate::fitting::parts_fit;
 use crate::layout::LayoutPart;
+
+/// What a search for the least number in a range came to.
+#[derive(Clone, Copy)]
+pub(crate) enum Search {
+    /// The least number of the range that fits both.
+    Number(u128),
+    /// None in the range.
+    NoneHere,
+    /// None at all.
+    NoneAtAll,
+}
 
 /// The least number that fits both of two lists of parts of this width.
 pub(crate) fn least_common(a: &[LayoutPart], b: &[LayoutPart], width: u32) -> Option<u128>
@@ -21,17 +33,16 @@ pub(crate) fn least_common(a: &[LayoutPart], b: &[LayoutPart], width: u32) -> Op
     if are_told_apart(a, b, width) {
         return None;
     }
-    least_common_from(a, b, width, 0, width)
+    match search_range(a, b, width, 0, width) {
+        Search::Number(number) => Some(number),
+        Search::NoneHere => None,
+        Search::NoneAtAll => None,
+    }
 }
 
-/// The same among the numbers that have all but their lowest `bits` as `from` has them.
-fn least_common_from(
-    a: &[LayoutPart],
-    b: &[LayoutPart],
-    width: u32,
-    from: u128,
-    bits: u32,
-) -> Option<u128>
+/// The least among the numbers that have all but their lowest `bits` as `from` has them. Where both
+/// have numbers there, but none in common, and both are cut there, other upper bits bring none either.
+fn search_range(a: &[LayoutPart], b: &[LayoutPart], width: u32, from: u128, bits: u32) -> Search
     requires a_accepted { PartsAccepted (parts_view a.now) }
     requires b_accepted { PartsAccepted (parts_view b.now) }
     requires a_width { parts_width (parts_view a.now) ≡ width }
@@ -39,18 +50,30 @@ fn least_common_from(
     requires at_most_128 { width ≤ 128 }
     requires fewer { bits ≤ width }
     requires within { from + 2 ^ bits ≤ 2 ^ width }
-    ensures { IsLeastBetween (parts_both (parts_view a.now) (parts_view b.now)) from (from + 2 ^ bits) result }
+    requires aligned { (p : ℕ) × (from ≡ p * 2 ^ bits) }
+    ensures { IsSearched (parts_both (parts_view a.now) (parts_view b.now)) from (from + 2 ^ bits) result }
 {
     if has_none(a, width, from, bits) || has_none(b, width, from, bits) {
-        return None;
+        return Search::NoneHere;
     }
     if bits == 0 {
-        return Some(from);
+        return Search::Number(from);
     }
     let half = bits - 1;
-    match least_common_from(a, b, width, from, half) {
-        Some(number) => Some(number),
-        None => least_common_from(a, b, width, from + (1 << half), half),
+    match search_range(a, b, width, from, half) {
+        Search::Number(number) => Search::Number(number),
+        Search::NoneAtAll => Search::NoneAtAll,
+        Search::NoneHere => match search_range(a, b, width, from + (1 << half), half) {
+            Search::Number(number) => Search::Number(number),
+            Search::NoneAtAll => Search::NoneAtAll,
+            Search::NoneHere => {
+                if parts_cut(a, width, bits) && parts_cut(b, width, bits) {
+                    Search::NoneAtAll
+                } else {
+                    Search::NoneHere
+                }
+            }
+        },
     }
 }
 

@@ -7,6 +7,7 @@ mod clash;
 mod common;
 mod counts;
 mod coverage;
+mod cuts;
 mod error;
 mod fitting;
 mod layout;

@@ -1,0 +1,23 @@
+#!/bin/sh
+# How the time of check grows where two constructors with inner layouts have no number in common, but no given bits that
+# differ. Free bits before the inner layouts are cut off from them, so that the time grows with a power of their number.
+# Free bits inside of inner layouts that have several constructors are all tried, so that each one doubles the time.
+. "$(dirname -- "$0")/program.sh"
+: >"$folder/empty"
+idle=$(milliseconds "$program" bits-before "$folder/empty" 1)
+
+# A line of times, as ratios to the first, start-up taken off.
+grows() {
+    part=$1
+    shift
+    first=
+    line="$part:"
+    for free in "$@"; do
+        took=$(($(milliseconds "$program" "$part" "$folder/empty" "$free") - idle)) || exit 1
+        [ -n "$first" ] || first=$took
+        line="$line $free bits $took ms ($(awk -v t="$took" -v f="$first" 'BEGIN { printf "%.2f", t / (f > 0 ? f : 1) }'))"
+    done
+    echo "$line"
+}
+grows bits-before 31 62 124
+grows bits-inside 12 14 16 18

@@ -1,0 +1,102 @@
+ghost use Rattle.ddl_bits.specs.Accepted.{PartAccepted};
+ghost use Rattle.ddl_bits.specs.Verdict.{HasAcceptedParts};
+ghost use Rattle.ddl_bits.specs.View.{layout_view, part_view};
+ghost use Rattle.std.specs.Prelude.{IfOk};
+
+use crate::tests::build::{alone, any, either, error, given, inner, one, two};
+use crate::{BitError, Gap, Layout, LayoutPart, check, covered, fits};
+use ddl_base::NoMemory;
+use std::alloc::Global;
+
+// { x : { a = 0b0 }, _ : uint 1 }, or with { a = 0b0; b = 0b1 } where it is whole
+fn middle(alloc: Global, whole: bool) -> Result<LayoutPart, NoMemory>
+    ensures { IfOk result (λ p. PartAccepted (part_view p)) }
+{
+    let leaf = if whole {
+        either(alloc, one(alloc, given(0, 1))?, one(alloc, given(1, 1))?)?
+    } else {
+        alone(alloc, one(alloc, given(0, 1))?)?
+    };
+    inner(
+        alloc,
+        alone(alloc, two(alloc, inner(alloc, leaf)?, any(1))?)?,
+    )
+}
+
+// a = { 0b0, m : middle }; b = { 0b1, m : middle }
+fn three_deep(alloc: Global, whole: bool) -> Result<Layout, NoMemory>
+    ensures { IfOk result (λ l. HasAcceptedParts (layout_view l)) }
+{
+    either(
+        alloc,
+        two(alloc, given(0, 1), middle(alloc, whole)?)?,
+        two(alloc, given(1, 1), middle(alloc, whole)?)?,
+    )
+}
+
+// a = 0bXX; b = 0bYY
+fn of_two_numbers(alloc: Global, first: u128, second: u128) -> Result<LayoutPart, NoMemory>
+    ensures { IfOk result (λ p. PartAccepted (part_view p)) }
+{
+    inner(
+        alloc,
+        either(
+            alloc,
+            one(alloc, given(first, 2))?,
+            one(alloc, given(second, 2))?,
+        )?,
+    )
+}
+
+#[test]
+fn a_gap_three_deep_is_found(rt: HostRuntime) -> Result<(), NoMemory> {
+    let alloc = rt.alloc();
+    match check(three_deep(alloc, true)?) {
+        Err(_error) => panic!(rt; "refused"),
+        Ok(whole) => {
+            assert_eq!(rt; fits(&whole, 3), Some(0));
+            assert_eq!(rt; fits(&whole, 6), Some(1));
+            assert_eq!(rt; covered(&whole), Ok(()));
+        }
+    }
+    match check(three_deep(alloc, false)?) {
+        Err(_error) => panic!(rt; "refused"),
+        Ok(part) => {
+            assert_eq!(rt; fits(&part, 1), Some(0));
+            assert_eq!(rt; fits(&part, 2), None);
+            assert_eq!(rt; fits(&part, 5), Some(1));
+            assert_eq!(rt; covered(&part), Err(Gap::Number(2)));
+        }
+    }
+    Ok(())
+}
+
+#[test]
+fn inner_layouts_share_a_number_or_none(rt: HostRuntime) -> Result<(), NoMemory> {
+    let alloc = rt.alloc();
+    // { 0b0, m : middle } has 0 and 1, and { _ : uint 1, 0b01 } has 1 and 5
+    let beside = either(
+        alloc,
+        two(alloc, given(0, 1), middle(alloc, false)?)?,
+        two(alloc, any(1), given(1, 2))?,
+    )?;
+    assert_eq!(rt; error(beside), Some(BitError::Overlap(0, 1, 1)));
+    // 1, 2, 5 and 6 fit the one, and 0, 1, 6 and 7 the other
+    let shifted = either(
+        alloc,
+        two(alloc, any(1), of_two_numbers(alloc, 1, 2)?)?,
+        two(alloc, of_two_numbers(alloc, 0, 3)?, any(1))?,
+    )?;
+    assert_eq!(rt; error(shifted), Some(BitError::Overlap(0, 1, 1)));
+    // at one place they have no number in common
+    let apart = either(
+        alloc,
+        two(alloc, any(100), of_two_numbers(alloc, 1, 2)?)?,
+        two(alloc, any(100), of_two_numbers(alloc, 0, 3)?)?,
+    )?;
+    match check(apart) {
+        Err(_error) => panic!(rt; "refused"),
+        Ok(all) => assert_eq!(rt; covered(&all), Ok(())),
+    }
+    Ok(())
+}
