@@ -16,7 +16,7 @@ use Rattle.ddl_unify.proofs.Keeping.{fine_same, fine_then, step_like, step_flip}
 step_split : (done : Bool) (place : List ℕ) (xs : List Bound) (es : List Equation) (l r : Ty) (es2 : List Equation) → Below l (length place) → Below r (length place) → EachBelow es (length place) → SplitIs done l r es es2 → StepIs done place xs es l r place xs es2
 step_split true place xs es l r es2 a b e s = record {
   there = λ f h g q. (h, s.there f g q);
-  back = λ f h g. (let x = s.back f g in (h, x.0, x.1));
+  back = λ n k f h g. (let x = s.back n k f g in (h, x.0, x.1));
   fewer = steps_less (zeros place) (weight (bounds xs) es2) (weight (bounds xs) (equal l r ∷ es)) (s.lighter (bounds xs));
   below = s.below (length place) a b e;
 }
@@ -53,7 +53,7 @@ going_next place0 xs0 es0 place xs es es1 p place2 xs2 es2 g e f s = record {
       let y : Solves h (es1 ++ p ∷ []) = subst Q e x.1 in
       s.there h x.0 (solves_front h es1 (p ∷ []) y) (solves_back h es1 (p ∷ []) y).0;
   back = λ h a q.
-      let x = s.back h a q in
+      let x = s.back 0 (omega arith) h a q in
       let Q : List Equation → Type 0 = λ z. Solves h z in
       g.back h x.0 (subst Q (sym e) (solves_append h es1 (p ∷ []) x.1 (x.2, tt)));
   below = let P : ℕ → Type 0 = λ n. EachBelow es2 n in subst P g.fine.long s.below;

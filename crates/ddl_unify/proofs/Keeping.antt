@@ -110,7 +110,7 @@ step_more place xs xs2 x m es e em h eb =
     let bs = bounds xs in
     record {
       there = λ f a s q. (let P : List Binding → Type 0 = λ b. Agrees f b in subst P (sym e2) (q, a), s);
-      back = λ f a s. (let P : List Binding → Type 0 = λ b. Agrees f b in let y = subst P e2 a in (y.1, s, y.0));
+      back = λ n k f a s. (let P : List Binding → Type 0 = λ b. Agrees f b in let y = subst P e2 a in (y.1, s, y.0));
       fewer =
           let zs : zeros place ≡ suc (zeros (set place x.from m)) = zeros_set place x.from (length xs) h.within (free_place place xs x.from h.kept h.free) ∙ ap (λ i. suc (zeros (set place x.from i))) (sym mm) in
           let w : weight (bounds xs2) es ≤ weight bs es * size (on (ty_view x.to) (solution bs)) = omega (arith, ap (λ b. weight b es) e2, weight_bound (bound_view x) bs es) in
@@ -123,7 +123,7 @@ step_more place xs xs2 x m es e em h eb =
 pub step_none : (place : List ℕ) (xs : List Bound) (t : Ty) (es : List Equation) → EachBelow es (length place) → Step place xs es t t place xs es
 step_none place xs t es b = record {
   there = λ f a s e. (a, s);
-  back = λ f a s. (a, s, refl);
+  back = λ n k f a s. (a, s, refl);
   fewer = steps_less (zeros place) (weight (bounds xs) es) (weight (bounds xs) (equal t t ∷ es)) (omega (arith, size_some (on t (solution (bounds xs)))));
   below = b;
 }
@@ -131,7 +131,7 @@ step_none place xs t es b = record {
 pub step_flip : (done : Bool) (place : List ℕ) (xs : List Bound) (es : List Equation) (l r : Ty) (place2 : List ℕ) (xs2 : List Bound) (es2 : List Equation) → StepIs done place xs es l r place2 xs2 es2 → StepIs done place xs es r l place2 xs2 es2
 step_flip true place xs es l r place2 xs2 es2 s = record {
   there = λ f a h e. s.there f a h (sym e);
-  back = λ f a h. (let q = s.back f a h in (q.0, q.1, sym q.2));
+  back = λ n k f a h. (let q = s.back n k f a h in (q.0, q.1, sym q.2));
   fewer =
       let e : weight (bounds xs) (equal l r ∷ es) ≡ weight (bounds xs) (equal r l ∷ es) = omega arith in
       let P : ℕ → Type 0 = λ n. steps (zeros place2) (weight (bounds xs2) es2) < steps (zeros place) n in
@@ -148,7 +148,7 @@ same_read xs l k f a e = sym (read_then (bounds xs) l f a) ∙ ap (λ x. on x f)
 pub step_like : (done : Bool) (place : List ℕ) (xs : List Bound) (es : List Equation) (l k r : Ty) (place2 : List ℕ) (xs2 : List Bound) (es2 : List Equation) → on l (solution (bounds xs)) ≡ on k (solution (bounds xs)) → StepIs done place xs es k r place2 xs2 es2 → StepIs done place xs es l r place2 xs2 es2
 step_like true place xs es l k r place2 xs2 es2 e s = record {
   there = λ f a h q. s.there f a h (sym (same_read xs l k f a e) ∙ q);
-  back = λ f a h. (let q = s.back f a h in (q.0, q.1, same_read xs l k f q.0 e ∙ q.2));
+  back = λ n m f a h. (let q = s.back n m f a h in (q.0, q.1, same_read xs l k f q.0 e ∙ q.2));
   fewer =
       let w : weight (bounds xs) (equal k r ∷ es) ≡ weight (bounds xs) (equal l r ∷ es) = ap (λ x. size x + size (on r (solution (bounds xs))) + weight (bounds xs) es) (sym e) in
       let P : ℕ → Type 0 = λ n. steps (zeros place2) (weight (bounds xs2) es2) < steps (zeros place) n in

@@ -1,3 +1,4 @@
+pub mod Comparing
 pub mod Deref
 pub mod Equating
 pub mod Going

@@ -1,7 +1,7 @@
 -- The parts of two types.
-use Rattle.std.proofs.Common.{◌≡◌, ℕ, ◌+◌, ◌≤◌, ◌<◌, List, [], ◌∷◌, ◌++◌, ◌==◌, refl, sym, ap, ◌∙◌, arith, zero, suc, map, length, true, false, ◌&&◌, Bool, inl, inr, append_assoc, length-append, ne_eqb, eq-eqb, eqb-true}
+use Rattle.std.proofs.Common.{◌≡◌, ℕ, ◌+◌, ◌≤◌, ◌<◌, List, [], ◌∷◌, ◌++◌, ◌==◌, refl, sym, ap, ◌∙◌, arith, zero, suc, map, length, drop, subst, true, false, ◌&&◌, Bool, inl, inr, append_assoc, length-append, ne_eqb, eq-eqb, eqb-true}
 use Rattle.std.proofs.lemmas.Bool.Decides.{eqb_tells}
-use Rattle.std.proofs.lemmas.List.{map-append}
+use Rattle.std.proofs.lemmas.List.{map-append, drop-append-le}
 use Rattle.ddl_types.specs.declared.ty.Ty as program
 use Rattle.ddl_types.specs.Types.{Head, Head.int, Head.uint, Head.sint, Head.bool, Head.unit, Head.stream, Head.maybe_of, Head.array_of, Head.map_of, Head.bits, Head.place, Ty, Ty.var, Ty.con, Tys, Tys.none, Tys.more, Sub, on_all, tys_of, BelowAll}
 use Rattle.ddl_types.specs.TyView.{ty_view}
@@ -140,11 +140,12 @@ split (var v) r es c d n = absurd c
 split (con h ts) (var v) es c d n = absurd d
 split (con h ts) (con g us) es c d n = record {
   there = λ f s e. solves_append f es (pairs ts us) s (pairs_solve f ts us cc);
-  back = λ f s. (
-    solves_front f es (pairs ts us) s,
-    let a = head_same h g (and_left (head_eq h g) (long_as ts us) n) in
-        let b = pairs_back f ts us (and_right (head_eq h g) (long_as ts us) n) (solves_back f es (pairs ts us) s) in cc,
-  );
+  back = λ m k f s.
+      let P : List Equation → Type 0 = λ x. Solves f x in
+      let z : Solves f (drop m es ++ pairs ts us) = subst P (drop-append-le m es (pairs ts us) k) s in
+      let a = head_same h g (and_left (head_eq h g) (long_as ts us) n) in
+      let b = pairs_back f ts us (and_right (head_eq h g) (long_as ts us) n) (solves_back f (drop m es) (pairs ts us) z) in
+      (solves_front f (drop m es) (pairs ts us) z, cc);
   lighter = λ bs. omega (arith, weight_append bs es (pairs ts us), pairs_light bs ts us);
   below = λ n h k a. below_append es (pairs ts us) n a (pairs_below ts us n h k);
 }

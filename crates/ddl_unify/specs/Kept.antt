@@ -1,5 +1,5 @@
 -- Bindings with the place of each variable's own: 0 for none, k + 1 for the k-th, and what solving leaves.
-use Rattle.std.specs.Prelude.{◌≡◌, ℕ, ◌+◌, ◌<◌, List, [], ◌∷◌, length, get_or, zero, suc, Bool, true, false}
+use Rattle.std.specs.Prelude.{◌≡◌, ℕ, ◌+◌, ◌<◌, ◌≤◌, List, [], ◌∷◌, length, drop, get_or, zero, suc, Bool, true, false}
 use Rattle.ddl_types.specs.Types.{Ty, Sub, on, Below}
 use Rattle.ddl_unify.specs.declared.store.Bound.{Bound}
 use Rattle.ddl_unify.specs.Occurs.{size}
@@ -20,10 +20,10 @@ pub record Kept (place : List ℕ) (xs : List Bound) : Type 0 where
   pub bound : (v k : ℕ) → get_or place v 0 ≡ suc k → IsFrom k v xs
   pub below : ToBelow (bounds xs) (length place)
 
--- two types that are no variables, taken apart
+-- two types that are no variables, taken apart: the equations above the first n of them tell the two equal
 pub record Split (l r : Ty) (es es2 : List Equation) : Type 0 where
   pub there : (f : Sub) → Solves f es → on l f ≡ on r f → Solves f es2
-  pub back : (f : Sub) → Solves f es2 → Solves f es × (on l f ≡ on r f)
+  pub back : (n : ℕ) → n ≤ length es → (f : Sub) → Solves f (drop n es2) → Solves f (drop n es) × (on l f ≡ on r f)
   pub lighter : (bs : List Binding) → weight bs es2 < size (on l (solution bs)) + size (on r (solution bs)) + weight bs es
   pub below : (n : ℕ) → Below l n → Below r n → EachBelow es n → EachBelow es2 n
 
@@ -31,10 +31,11 @@ abbrev pub SplitIs : Bool → Ty → Ty → List Equation → List Equation → 
 SplitIs true l r es es2 = Split l r es es2
 SplitIs false l r es es2 = Apart l r
 
--- one step of solving, from the bindings and what is to be solved beside l = r, to those after it
+-- one step of solving, from the bindings and what is to be solved beside l = r, to those after it, of which
+-- those above the first n tell what those above the first n told, and l = r
 pub record Step (place : List ℕ) (xs : List Bound) (es : List Equation) (l r : Ty) (place2 : List ℕ) (xs2 : List Bound) (es2 : List Equation) : Type 0 where
   pub there : (f : Sub) → Agrees f (bounds xs) → Solves f es → on l f ≡ on r f → Agrees f (bounds xs2) × Solves f es2
-  pub back : (f : Sub) → Agrees f (bounds xs2) → Solves f es2 → Agrees f (bounds xs) × Solves f es × (on l f ≡ on r f)
+  pub back : (n : ℕ) → n ≤ length es → (f : Sub) → Agrees f (bounds xs2) → Solves f (drop n es2) → Agrees f (bounds xs) × Solves f (drop n es) × (on l f ≡ on r f)
   pub fewer : steps (zeros place2) (weight (bounds xs2) es2) < steps (zeros place) (weight (bounds xs) (equal l r ∷ es))
   pub below : EachBelow es2 (length place)
 

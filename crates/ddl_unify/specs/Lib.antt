@@ -1,4 +1,5 @@
 pub mod Bindings
+pub mod Comparing
 pub mod Equations
 pub mod Heads
 pub mod Kept

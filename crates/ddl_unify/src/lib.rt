@@ -1,6 +1,7 @@
 //! A solver of equations between types.
 #![tactic(auto)]
 
+mod compared;
 mod heads;
 mod occurs;
 mod reading;

@@ -1,16 +1,19 @@
 //! Solving: equations taken apart, and variables bound, until none is left.
 
-ghost use Rattle.std.specs.Prelude.{◌≡◌, ◌<◌, ◌≤◌, ◌+◌, ◌∷◌, [], List, IfOk, None, false, length};
+ghost use Rattle.std.specs.Prelude.{◌≡◌, ◌<◌, ◌≤◌, ◌+◌, ◌∷◌, ◌++◌, [], List, IfOk, IfSome, None, false, length};
+ghost use Rattle.std.specs.Bool.{OnTrue};
 ghost use Rattle.ddl_types.specs.Types.{Ty.var, Below, on};
 ghost use Rattle.ddl_types.specs.TyView.{ty_view};
 ghost use Rattle.ddl_unify.specs.Occurs.{has, is_var};
-ghost use Rattle.ddl_unify.specs.Equations.{Equation, EachBelow};
+ghost use Rattle.ddl_unify.specs.Equations.{Equation, equal, EachBelow};
+ghost use Rattle.ddl_unify.specs.Comparing.{Remembers};
 ghost use Rattle.ddl_unify.specs.Bindings.{Unbound, solution};
 ghost use Rattle.ddl_unify.specs.Heads.{IsCon};
 ghost use Rattle.ddl_unify.specs.View.{bounds, equations};
 ghost use Rattle.ddl_unify.specs.Kept.{Kept, Step, StepIs, SplitIs, SolvedIs};
 ghost use Rattle.ddl_unify.specs.Solving.{Fine, Opened, Tried, Extends};
 
+use crate::compared::Compared;
 use crate::heads::{is_alike, push_parts};
 use crate::occurs::occurs;
 use crate::reading::{bound_to, unbound};
@@ -176,6 +179,88 @@ fn step(
     Ok(done)
 }
 
+/// The variables that two types are, if both are.
+#[tactic(auto, using(ddl_types::proofs::TyLayers::layers))]
+fn variables(pair: &Pair) -> Option<(u32, u32)>
+    ensures { IfSome result (λ p. (ty_view pair.now.left ≡ var p.0) × (ty_view pair.now.right ≡ var p.1)) }
+{
+    match &pair.left {
+        Ty::Var(v) => match &pair.right {
+            Ty::Var(w) => Some((*v, *w)),
+            _ => None,
+        },
+        _ => None,
+    }
+}
+
+/// The same for two variables; nothing is left to do where they were made equal before.
+fn compare(
+    alloc: Global,
+    place: &mut Vec<u32>,
+    trail: &mut Vec<Bound>,
+    stack: &mut Vec<Pair>,
+    compared: &mut Compared,
+    pair: Pair,
+    v: u32,
+    w: u32,
+) -> Result<bool, NoMemory>
+    requires kept { Kept place.old.items trail.old.items }
+    requires left_is { ty_view pair.left ≡ var v }
+    requires right_is { ty_view pair.right ≡ var w }
+    requires left_below { Below (ty_view pair.left) (length place.old.items) }
+    requires right_below { Below (ty_view pair.right) (length place.old.items) }
+    requires stack_below { EachBelow (equations stack.old.items) (length place.old.items) }
+    requires remembers { Remembers compared.old trail.old.items (equations stack.old.items ++ equal (ty_view pair.left) (ty_view pair.right) ∷ []) }
+    ensures fine { Fine place.old.items place.new.items trail.old.items trail.new.items }
+    ensures step { IfOk result (λ b. StepIs b place.old.items trail.old.items (equations stack.old.items) (ty_view pair.left) (ty_view pair.right) place.new.items trail.new.items (equations stack.new.items)) }
+    ensures remembers { IfOk result (λ b. OnTrue b (Remembers compared.new trail.new.items (equations stack.new.items))) }
+{
+    if compared.knows(v, w) {
+        return Ok(true);
+    }
+    let above = stack.len();
+    if !step(alloc, place, trail, stack, pair)? {
+        return Ok(false);
+    }
+    if stack.len() == above {
+        return Ok(true);
+    }
+    compared.expect(v, w, above)?;
+    Ok(true)
+}
+
+/// One step, with what is remembered of the steps before.
+#[tactic(auto, using(crate::proofs::Comparing::turnings))]
+fn turn(
+    alloc: Global,
+    place: &mut Vec<u32>,
+    trail: &mut Vec<Bound>,
+    stack: &mut Vec<Pair>,
+    compared: &mut Compared,
+    pair: Pair,
+) -> Result<bool, NoMemory>
+    requires kept { Kept place.old.items trail.old.items }
+    requires left_below { Below (ty_view pair.left) (length place.old.items) }
+    requires right_below { Below (ty_view pair.right) (length place.old.items) }
+    requires stack_below { EachBelow (equations stack.old.items) (length place.old.items) }
+    requires remembers { Remembers compared.old trail.old.items (equations stack.old.items ++ equal (ty_view pair.left) (ty_view pair.right) ∷ []) }
+    ensures fine { Fine place.old.items place.new.items trail.old.items trail.new.items }
+    ensures step { IfOk result (λ b. StepIs b place.old.items trail.old.items (equations stack.old.items) (ty_view pair.left) (ty_view pair.right) place.new.items trail.new.items (equations stack.new.items)) }
+    ensures remembers { IfOk result (λ b. OnTrue b (Remembers compared.new trail.new.items (equations stack.new.items))) }
+{
+    compared.settle(stack.len())?;
+    match variables(&pair) {
+        None => {
+            let done = step(alloc, place, trail, stack, pair)?;
+            Ok(done)
+        }
+        Some((v, w)) => {
+            let done = compare(alloc, place, trail, stack, compared, pair, v, w)?;
+            Ok(done)
+        }
+    }
+}
+
 /// Solves the equations of a stack; false where they have no solution.
 fn solve(
     alloc: Global,
@@ -188,8 +273,9 @@ fn solve(
     ensures fine { Fine place.old.items place.new.items trail.old.items trail.new.items }
     ensures solved { IfOk result (λ b. SolvedIs b (bounds trail.old.items) (equations stack.items) (bounds trail.new.items)) }
 {
+    let mut compared = Compared::new(alloc);
     while let Some(pair) = stack.pop() {
-        if !step(alloc, place, trail, &mut stack, pair)? {
+        if !turn(alloc, place, trail, &mut stack, &mut compared, pair)? {
             return Ok(false);
         }
     }
