@@ -22,6 +22,13 @@ pub enum Order {
     Upward,
 }
 
+/// One tower, or two whose outermost variables are made equal.
+#[derive(Clone, Copy)]
+pub enum Towers {
+    One,
+    TwoEqual,
+}
+
 #[tactic(auto, using(ddl_types::proofs::TyLayers::layers))]
 fn made_of(alloc: Global, link: Link, variable: u32) -> Result<Ty, NoMemory>
     ensures { IfOk result (λ t. (n : ℕ) → variable < n → Below (ty_view t) n) }
@@ -51,19 +58,57 @@ fn tie(
     Ok(())
 }
 
-/// Makes a tower of variables, one link after the other; gives its height.
+/// Makes a tower of new variables, one link after the other; gives the outermost.
+fn build(
+    alloc: Global,
+    solver: &mut Solver,
+    link: Link,
+    order: Order,
+    height: u32,
+) -> Result<u32, EquateError>
+    requires height { height < 2 ^ 24 }
+    requires room { variables solver.old < 2 ^ 25 }
+    ensures count { IfOk result (λ _. variables solver.new ≡ variables solver.old + height + 1) }
+    ensures outermost { IfOk result (λ top. top < variables solver.new) }
+{
+    let first = solver.fresh()?;
+    let mut last = first;
+    for _ in 0..height {
+        let next = solver.fresh()?;
+        match order {
+            Order::Downward => tie(alloc, solver, link, last, next)?,
+            Order::Upward => tie(alloc, solver, link, next, last)?,
+        }
+        last = next;
+    }
+    match order {
+        Order::Downward => Ok(first),
+        Order::Upward => Ok(last),
+    }
+}
+
+/// Makes a tower; gives its height.
 pub fn tower(alloc: Global, link: Link, order: Order, height: u32) -> Result<u32, EquateError>
     requires { height < 2 ^ 24 }
 {
     let mut solver = Solver::new(alloc);
-    let mut last = solver.fresh()?;
-    for _ in 0..height {
-        let next = solver.fresh()?;
-        match order {
-            Order::Downward => tie(alloc, &mut solver, link, last, next)?,
-            Order::Upward => tie(alloc, &mut solver, link, next, last)?,
-        }
-        last = next;
-    }
+    build(alloc, &mut solver, link, order, height)?;
+    Ok(height)
+}
+
+/// Makes two towers, and then their outermost variables equal; gives their height.
+#[tactic(auto, using(ddl_types::proofs::TyLayers::layers))]
+pub fn equal_towers(
+    alloc: Global,
+    link: Link,
+    order: Order,
+    height: u32,
+) -> Result<u32, EquateError>
+    requires { height < 2 ^ 24 }
+{
+    let mut solver = Solver::new(alloc);
+    let left = build(alloc, &mut solver, link, order, height)?;
+    let right = build(alloc, &mut solver, link, order, height)?;
+    solver.equate(&Ty::Var(left), &Ty::Var(right))?;
     Ok(height)
 }

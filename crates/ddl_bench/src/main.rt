@@ -3,21 +3,37 @@
 
 mod classes;
 mod equations;
+mod layouts;
 mod tokens;
 
-use crate::equations::{Link, Order, tower};
+use crate::equations::{Link, Order, Towers, equal_towers, tower};
 use std::alloc::Global;
 use std::io::{Error, ErrorKind};
 use std::{env, fs, io};
 
-/// The height of a tower of types.
-fn solved(alloc: Global, link: Link, order: Order, height: u32) -> io::Result<u32> {
+/// The height of a tower of types, or of two that are made equal.
+fn solved(alloc: Global, towers: Towers, link: Link, order: Order, height: u32) -> io::Result<u32> {
     if height >= 1 << 24 {
         return Err(Error::from(ErrorKind::InvalidInput));
     }
-    match tower(alloc, link, order, height) {
+    let height = match towers {
+        Towers::One => tower(alloc, link, order, height),
+        Towers::TwoEqual => equal_towers(alloc, link, order, height),
+    };
+    match height {
         Ok(height) => Ok(height),
         Err(_) => Err(Error::from(ErrorKind::Other)),
+    }
+}
+
+/// The width of a layout with so many free bits before its choices or inside of them.
+fn checked(alloc: Global, before: u32, inside: u32) -> io::Result<u32> {
+    if before == 0 || inside == 0 {
+        return Err(Error::from(ErrorKind::InvalidInput));
+    }
+    match layouts::width_of_two(alloc, before, inside) {
+        Ok(width) => Ok(width),
+        Err(_) => Err(Error::from(ErrorKind::OutOfMemory)),
     }
 }
 
@@ -32,12 +48,34 @@ fn main(rt: HostRuntime) -> io::Result<()> {
     };
     let text = fs::read(&rt, file.as_str())?;
     match part.as_str() {
+        "bits-before" => println!(rt; "{}", checked(alloc, number, 1)?),
+        "bits-inside" => println!(rt; "{}", checked(alloc, 1, number)?),
         "class" => println!(rt; "{}", classes::letters_before_a_stop(&text, number)),
         "lex" => println!(rt; "{}", tokens::count(alloc, &text)?),
-        "chain" => println!(rt; "{}", solved(alloc, Link::Array, Order::Downward, number)?),
-        "chain-up" => println!(rt; "{}", solved(alloc, Link::Array, Order::Upward, number)?),
-        "doublings" => println!(rt; "{}", solved(alloc, Link::Map, Order::Downward, number)?),
-        "doublings-up" => println!(rt; "{}", solved(alloc, Link::Map, Order::Upward, number)?),
+        "chain" => println!(rt;
+            "{}",
+            solved(alloc, Towers::One, Link::Array, Order::Downward, number)?
+        ),
+        "chain-up" => println!(rt;
+            "{}",
+            solved(alloc, Towers::One, Link::Array, Order::Upward, number)?
+        ),
+        "doublings" => println!(rt;
+            "{}",
+            solved(alloc, Towers::One, Link::Map, Order::Downward, number)?
+        ),
+        "doublings-up" => println!(rt;
+            "{}",
+            solved(alloc, Towers::One, Link::Map, Order::Upward, number)?
+        ),
+        "equal-towers" => println!(rt;
+            "{}",
+            solved(alloc, Towers::TwoEqual, Link::Map, Order::Downward, number)?
+        ),
+        "equal-towers-up" => println!(rt;
+            "{}",
+            solved(alloc, Towers::TwoEqual, Link::Map, Order::Upward, number)?
+        ),
         _ => Err(Error::from(ErrorKind::InvalidInput)),
     }
 }
