@@ -18,7 +18,7 @@ use Rattle.ddl_typed.specs.Denoted.{Denoted, whole_input}
 use Rattle.ddl_typed.specs.Simple.{IsSimple}
 use Rattle.ddl_typed.specs.Told.{Told, IsAnswer, told, told_of}
 use Rattle.ddl_typed.specs.Evaluated.{Gives, meant}
-use Rattle.ddl_typed.specs.AnswerView.{source_of}
+use Rattle.ddl_typed.specs.AnswerView.{source_of, is_said}
 use Rattle.ddl_typed.specs.declared.answer.Failure.{Failure}
 use Rattle.ddl_typed.specs.declared.step.Stop.{Stop}
 use Rattle.ddl_typed.specs.declared.step.Stop.TheVariants.{Failed}
@@ -38,7 +38,10 @@ told_failed name w in_array a span = refl
 
 -- a stop by a failure
 pub gives_failed : (input : List ℕ) (o : Outcome) (stop : Stop) (f : Failure) → stop ≡ Failed f → Gives input o (Err stop) → o ≡ missed f.why (source_of f.in_input) f.at f.span
-gives_failed input o stop f e g = subst (λ s. Gives input o (Err s)) e g
+gives_failed input o stop f e g = (subst (λ s. Gives input o (Err s)) e g).0
+
+pub gives_unsaid : (input : List ℕ) (o : Outcome) (stop : Stop) (f : Failure) → stop ≡ Failed f → Gives input o (Err stop) → is_said f.why ≡ false
+gives_unsaid input o stop f e g = (subst (λ s. Gives input o (Err s)) e g).1
 
 pub ruleset telling = (told_parse, told_deep, told_failed)
 

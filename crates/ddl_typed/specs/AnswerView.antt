@@ -1,5 +1,7 @@
 -- The answer that a value of the program stands for.
-use Rattle.std.specs.Prelude.{List, length, map, Bool, true, false}
+use Rattle.std.specs.Prelude.{◌≡◌, List, length, map, Bool, true, false}
+use Rattle.ddl_base.specs.declared.why.Why.{Why}
+use Rattle.ddl_base.specs.declared.why.Why.TheVariants.{Said}
 use Rattle.ddl_types.specs.Value.{Source, in_input, in_array}
 use Rattle.ddl_types.specs.Outcome as o
 use Rattle.ddl_types.specs.Answer.{Closing, counted, failed, faulted}
@@ -29,3 +31,13 @@ closing_view ps (Faulted fault span) = faulted fault span
 
 abbrev pub answer_view : Answer → Told
 answer_view a = record { parses = map shown_view a.parses.items; closing = closing_view a.parses.items a.closing }
+
+-- the cause is the text of a `Fail`
+abbrev pub is_said : Why → Bool
+is_said (Said text) = true
+is_said why = false
+
+-- the closing is no failure by the text of a `Fail`
+abbrev pub IsUnsaid : Close → Type 0
+IsUnsaid (Failed f) = is_said f.why ≡ false
+IsUnsaid _ = Unit {0}

@@ -1,5 +1,5 @@
 -- What the evaluator's functions give.
-use Rattle.std.specs.Prelude.{◌≡◌, ℕ, ◌+◌, List, [], ◌∷◌, map, length, Option, Some, None, Result, Ok, Err}
+use Rattle.std.specs.Prelude.{◌≡◌, ℕ, ◌+◌, List, [], ◌∷◌, map, length, false, Option, Some, None, Result, Ok, Err}
 use Rattle.std.specs.declared.alloc.Global.{Global}
 use Rattle.std.specs.declared.rc.Rc.{Rc}
 use Rattle.ddl_base.specs.declared.span.Span.{Span}
@@ -14,7 +14,7 @@ use Rattle.ddl_typed.specs.Primitives.{byte_values, one_byte, at_end, match_byte
 use Rattle.ddl_typed.specs.Lower.{bottom}
 use Rattle.ddl_typed.specs.Meaning.{val, den, den_items, den_item}
 use Rattle.ddl_typed.specs.SharedView.{shared_view, parts_view}
-use Rattle.ddl_typed.specs.AnswerView.{source_of}
+use Rattle.ddl_typed.specs.AnswerView.{source_of, is_said}
 use Rattle.ddl_typed.specs.declared.shared.Shared.{Shared}
 use Rattle.ddl_typed.specs.declared.built.Built.{Built}
 use Rattle.ddl_typed.specs.declared.step.Parsed.{Parsed}
@@ -74,10 +74,10 @@ matched input bs whole span at = unticked (match_bytes bs (array (byte_values wh
 unfoldable pub simple_value_of : Expr → Env → Valued
 simple_value_of e env = val no_spec bottom e env
 
--- the outcome is this value or this failure; where memory ran out nothing is said
+-- the outcome is this value or this failure, which is not that of a `Fail`; where memory ran out nothing is told
 abbrev pub Gives : List ℕ → Outcome → Result Parsed Stop → Type 0
 Gives input o (Ok p) = o ≡ parsed (rc_view p.value) (stream_at input p.at)
-Gives input o (Err (Failed f)) = o ≡ missed f.why (source_of f.in_input) f.at f.span
+Gives input o (Err (Failed f)) = (o ≡ missed f.why (source_of f.in_input) f.at f.span) × (is_said f.why ≡ false)
 Gives input o (Err NoMemory) = Unit {0}
 
 -- the form is the text of these bytes

@@ -11,10 +11,13 @@ pub mod Denoted
 pub mod Env
 pub mod Evaluated
 pub mod Laws
+pub mod LayoutLaws
+pub mod LayoutView
 pub mod Loops
 pub mod Lower
 pub mod Maps
 pub mod Meaning
+pub mod Nameless
 pub mod Numbers
 pub mod Operators
 pub mod PartView
@@ -24,6 +27,8 @@ pub mod Records
 pub mod Repetition
 pub mod SharedView
 pub mod Simple
+pub mod Specification
+pub mod SpecificationView
 pub mod Streams
 pub mod Told
 pub mod Tree

@@ -1,9 +1,9 @@
-ghost use Rattle.std.specs.Prelude.{◌≡◌, ◌∷◌, [], All, IfOk, Some};
+ghost use Rattle.std.specs.Prelude.{◌≡◌, ◌∷◌, [], All, IfOk, Some, false};
 ghost use Rattle.ddl_types.specs.Outcome.{missed, parsed};
 ghost use Rattle.ddl_types.specs.Plain.{IsPaired};
 ghost use Rattle.ddl_types.specs.PlainOf.{cut};
 ghost use Rattle.ddl_types.specs.PlainView.{plain_view};
-ghost use Rattle.ddl_typed.specs.AnswerView.{answer_view, source_of};
+ghost use Rattle.ddl_typed.specs.AnswerView.{answer_view, is_said, source_of, IsUnsaid};
 ghost use Rattle.ddl_typed.specs.Evaluated.{rc_view, stream_at, meant};
 ghost use Rattle.ddl_typed.specs.Env.{empty};
 ghost use Rattle.ddl_typed.specs.Simple.{IsSimple};
@@ -29,6 +29,7 @@ pub fn denote(alloc: Global, entry: &TDecl, input: &[u8]) -> Result<Answer, NoMe
     requires { IsSimple (view entry.now.body) 0 }
     ensures answer { IfOk result (λ answer. IsAnswer (alone_view entry.now) 0 input.now (answer_view answer)) }
     ensures paired { IfOk result (λ answer. All (λ parse. IsPaired (plain_view parse.value)) answer.parses.items) }
+    ensures unsaid { IfOk result (λ answer. IsUnsaid answer.closing) }
 {
     let answer = told_at(alloc, entry, input)?;
     Ok(answer)
@@ -37,7 +38,8 @@ pub fn denote(alloc: Global, entry: &TDecl, input: &[u8]) -> Result<Answer, NoMe
 #[tactic(auto, using(crate::proofs::Answering::telling))]
 fn told_at(alloc: Global, entry: &TDecl, input: &[u8]) -> Result<Answer, NoMemory>
     requires { IsSimple (view entry.now.body) 0 }
-    ensures { IfOk result (λ answer. told (cut entry.now.span (meant input.now (view entry.now.body) empty 0)) ≡ Some (answer_view answer)) }
+    ensures told { IfOk result (λ answer. told (cut entry.now.span (meant input.now (view entry.now.body) empty 0)) ≡ Some (answer_view answer)) }
+    ensures unsaid { IfOk result (λ answer. IsUnsaid answer.closing) }
 {
     let mut scope = Vec::new(alloc);
     match eval(alloc, input, &entry.body, &mut scope, 0) {
@@ -52,7 +54,8 @@ fn told_at(alloc: Global, entry: &TDecl, input: &[u8]) -> Result<Answer, NoMemor
 
 #[tactic(auto, using(crate::proofs::Answering::telling))]
 fn one_parse(alloc: Global, input: &[u8], name: Span, given: Parsed) -> Result<Answer, NoMemory>
-    ensures { IfOk result (λ answer. told (cut name (parsed (rc_view given.value) (stream_at input.now given.at))) ≡ Some (answer_view answer)) }
+    ensures told { IfOk result (λ answer. told (cut name (parsed (rc_view given.value) (stream_at input.now given.at))) ≡ Some (answer_view answer)) }
+    ensures unsaid { IfOk result (λ answer. IsUnsaid answer.closing) }
 {
     let mut parses = Vec::new(alloc);
     if is_deeper(&given.value, MAX_DEPTH) {
@@ -74,7 +77,9 @@ fn one_parse(alloc: Global, input: &[u8], name: Span, given: Parsed) -> Result<A
 
 #[tactic(auto, using(crate::proofs::Answering::telling))]
 fn no_parse(alloc: Global, failure: Failure) -> Answer
-    ensures { (name : Span) → told (cut name (missed failure.why (source_of failure.in_input) failure.at failure.span)) ≡ Some (answer_view result) }
+    requires { is_said failure.why ≡ false }
+    ensures told { (name : Span) → told (cut name (missed failure.why (source_of failure.in_input) failure.at failure.span)) ≡ Some (answer_view result) }
+    ensures unsaid { IsUnsaid result.closing }
 {
     Answer {
         parses: Vec::new(alloc),

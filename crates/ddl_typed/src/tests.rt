@@ -3,9 +3,12 @@ ghost use Rattle.ddl_typed.specs.Simple.{AreSimple, IsSimple};
 ghost use Rattle.ddl_typed.specs.Tree.{field, let_, plain, result_};
 ghost use Rattle.ddl_typed.specs.View.{item_view, items_view, view};
 
-use crate::{Close, TDecl, TExpr, TForm, TItem, denote};
+use crate::{
+    Close, TBody, TClass, TDecl, TDeclaration, TExpr, TForm, TItem, denote, form_declared,
+};
 use ddl_base::{Bytes, NoMemory, Span};
-use ddl_types::{Fault, Ty};
+use ddl_tree::Kind;
+use ddl_types::{Fault, Scheme, Ty};
 use std::alloc::Global;
 use std::process::Abort;
 use std::test::Fail;
@@ -263,5 +266,31 @@ fn an_absent_byte_fails_at_its_form(rt: HostRuntime) -> Result<(), Fail> {
         b"a",
         "Answer { parses: [], closing: Failed(Failure { why: Byte, in_input: true, at: 1, span: Span { module: 0, from: 26, to: 31 } }) }",
     )?;
+    Ok(())
+}
+
+fn declared(alloc: Global, kind: Kind, body: TBody) -> Result<TDeclaration, NoMemory> {
+    Ok(TDeclaration {
+        unit: 0,
+        name: Bytes::of(alloc, b"Main")?,
+        span: span(4, 8),
+        kind,
+        params: Vec::new(alloc),
+        scheme: Scheme {
+            vars: 0,
+            conds: Vec::new(alloc),
+            of: Ty::Uint(8),
+        },
+        body,
+    })
+}
+
+#[test]
+fn a_class_stands_for_no_form(rt: HostRuntime) -> Result<(), Fail> {
+    let alloc = rt.alloc();
+    let class = declared(alloc, Kind::Class, TBody::Class(TClass::Range(48, 57)))?;
+    assert!(rt; form_declared(class).is_none());
+    let main = declared(alloc, Kind::Grammar, TBody::Expr(byte(11, 16)))?;
+    assert!(rt; form_declared(main).is_some());
     Ok(())
 }
