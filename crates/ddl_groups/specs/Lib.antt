@@ -1,0 +1,4 @@
+pub mod Groups
+pub mod Labels
+pub mod Laws
+pub mod Reach
