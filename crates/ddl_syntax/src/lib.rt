@@ -1,8 +1,35 @@
-//! The grammar's laws, and the machine that reads a module token by token.
+//! The parser: the module whose tokens these are, or the first token that no module goes on with.
 #![tactic(auto)]
 
-mod law;
+mod after_step;
+mod append;
+mod bits_step;
+mod bound_step;
+mod case_step;
+mod class_step;
+mod close_step;
+mod closed;
+mod decl_step;
+mod depth;
+mod error;
+mod extend_step;
+mod field_step;
+mod finish;
+mod first_step;
+mod focus;
+mod frame;
+mod have_step;
+mod level;
+mod limit;
+mod list_step;
+mod loop_step;
+mod module_step;
+mod parser;
+mod part;
+mod refusal;
+mod stack;
+mod step;
+mod type_step;
 
-pub use law::{
-    machine_knows_the_least_depth, machine_reads_modules_exactly, prints_tell_modules_apart,
-};
+pub use error::SyntaxError;
+pub use parser::parse;
