@@ -1,0 +1,5 @@
+pub mod Numerals
+pub mod Quoted
+pub mod ReadBack
+pub mod Show
+pub mod Writes

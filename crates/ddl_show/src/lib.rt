@@ -1,0 +1,19 @@
+//! The text of a module: a line for each import and each declaration.
+#![tactic(auto)]
+
+mod classes;
+mod decls;
+mod digits;
+mod exprs;
+mod law;
+mod lines;
+mod literals;
+mod operators;
+mod patterns;
+#[cfg(test)]
+mod tests;
+mod tokens;
+mod types;
+
+pub use law::show_law;
+pub use lines::show;
