@@ -1,0 +1,15 @@
+//! Which modules the program runs so far, and the typed tree of each.
+#![tactic(auto)]
+
+mod blocks;
+mod counting;
+mod form;
+mod grammars;
+mod modules;
+mod scope;
+mod stop;
+#[cfg(test)]
+mod tests;
+mod types;
+
+pub use modules::specified;
