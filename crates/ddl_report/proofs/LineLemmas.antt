@@ -6,10 +6,12 @@ use Rattle.std.proofs.lemmas.Str.{IsUtf8-from_is_utf8, is_utf8-from_IsUtf8}
 use Rattle.serde_json.specs.View.{items_of}
 use Rattle.serde_json.specs.Written.{has_float, items_have_float}
 use Rattle.serde_json.specs.Data.{Data}
+use Rattle.ddl_base.specs.declared.told.Told.{Told}
 use Rattle.ddl_report.specs.Closing.{closing_data}
 use Rattle.ddl_report.specs.Lines.{parse_data}
 use Rattle.ddl_report.specs.Names.{shown}
 use Rattle.ddl_report.specs.Numbers.{natural}
+use Rattle.ddl_report.specs.Refusal.{text_data, told_data}
 use Rattle.ddl_report.specs.declared.closing.Closing.{Closing}
 use Rattle.ddl_report.specs.declared.closing.Closing.TheVariants.{Parses, Fail, Fault, Spent, Counts, Declarations, Words, Large, Read, Missing, Unbuilt}
 use Rattle.ddl_report.proofs.NoFloat.{plain-no_float}
@@ -44,5 +46,12 @@ closing-no_float Read = refl
 closing-no_float (Missing name) = refl
 closing-no_float Unbuilt = refl
 
+texts-no_float : (texts : List (List ℕ)) → items_have_float (items_of (map text_data texts)) ≡ false
+texts-no_float [] = refl
+texts-no_float (text ∷ texts) = texts-no_float texts
+
+pub told-no_float : (told : Told) → has_float (told_data told) ≡ false
+told-no_float told = rw (texts-no_float told.more.items)
+
 -- for a line that is written
-pub ruleset line_lemmas = (closing-no_float, numbers-no_float, parse-no_float, plain-no_float)
+pub ruleset line_lemmas = (closing-no_float, told-no_float, numbers-no_float, parse-no_float, plain-no_float)

@@ -5,14 +5,16 @@ use Rattle.std.specs.Fmt.{digits}
 use Rattle.std.specs.Str.{is_utf8, chars}
 use Rattle.serde_json.proofs.OnLiterals.{serde_json_on_literals}
 use Rattle.ddl_base.specs.declared.why.Why.TheVariants as why_is
+use Rattle.ddl_base.specs.declared.stage.Stage.TheVariants as stage_is
 use Rattle.ddl_types.specs.declared.fault.Fault.TheVariants as fault_is
 use Rattle.ddl_types.specs.Plain as p
 use Rattle.ddl_report.specs.Closing.{closing_data}
-use Rattle.ddl_report.specs.Lines.{line_text, bytes_data, parse_data}
+use Rattle.ddl_report.specs.Lines.{line_text, parse_data}
+use Rattle.ddl_report.specs.Refusal.{refusal_data}
 use Rattle.ddl_report.specs.Values.{plain_data}
 use Rattle.ddl_report.specs.declared.closing.Closing.TheVariants as closing_is
 
-text_found : line_text (parse_data 2 true (bytes_data (97 ∷ 98 ∷ []))) ≡ codes "{\"end\":2,\"in\":\"input\",\"value\":[97,98]}\n"
+text_found : line_text (parse_data 2 true (plain_data (p.array (p.one (p.number (pos 97)) (p.one (p.number (pos 98)) p.none))))) ≡ codes "{\"end\":2,\"in\":\"input\",\"value\":[97,98]}\n"
 unfolding serde_json_on_literals digits is_utf8 chars
 text_found = refl
 
@@ -55,3 +57,13 @@ least = refl
 stream : line_text (plain_data (p.stream false 1 3)) ≡ codes "{\"$stream\":{\"from\":1,\"in\":\"array\",\"to\":3}}\n"
 unfolding serde_json_on_literals digits is_utf8 chars
 stream = refl
+
+bad_byte : line_text (refusal_data stage_is.Lex 4 (codes "A") 13 13 []) ≡ codes "{\"refused\":{\"code\":\"lex.4\",\"from\":13,\"module\":\"A\",\"more\":[],\"to\":13}}\n"
+unfolding serde_json_on_literals digits is_utf8 chars
+bad_byte = refl
+
+-- a text is shown as a name is, also where it is no UTF-8
+twice : line_text (refusal_data stage_is.Names 2 (codes "A") 19 23 (codes "4" ∷ (255 ∷ []) ∷ []))
+    ≡ codes "{\"refused\":{\"code\":\"names.2\",\"from\":19,\"module\":\"A\",\"more\":[\"4\",\"" ++ 0xc3 ∷ 0xbf ∷ codes "\"],\"to\":23}}\n"
+unfolding serde_json_on_literals digits is_utf8 chars
+twice = refl

@@ -1,7 +1,6 @@
 -- The lines of parses.
-use Rattle.std.specs.Prelude.{ℕ, List, [], ◌∷◌, ◌++◌, Bool, map, codes}
-use Rattle.serde_json.specs.Data.{Data, array, object, member, no_members}
-use Rattle.serde_json.specs.View.{items_of}
+use Rattle.std.specs.Prelude.{ℕ, List, [], ◌∷◌, ◌++◌, Bool, codes}
+use Rattle.serde_json.specs.Data.{Data, object, member, no_members}
 use Rattle.serde_json.specs.Written.{compact_text}
 use Rattle.ddl_report.specs.Numbers.{natural}
 use Rattle.ddl_report.specs.Values.{place_data}
@@ -9,10 +8,6 @@ use Rattle.ddl_report.specs.Values.{place_data}
 -- the text of a JSON value, without spaces, and a newline
 abbrev pub line_text : Data → List ℕ
 line_text d = compact_text d ++ 10 ∷ []
-
--- a list of numbers
-abbrev pub bytes_data : List ℕ → Data
-bytes_data bytes = array (items_of (map natural bytes))
 
 -- a parse: where it ends, in which bytes, and its value
 abbrev pub parse_data : ℕ → Bool → Data → Data

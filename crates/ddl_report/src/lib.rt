@@ -1,4 +1,4 @@
-//! The lines that the program writes: one for each parse, and one that ends a run.
+//! The lines that the program writes: one for each parse, one that ends a run, and one of a refusal.
 #![tactic(auto)]
 
 mod closing;
@@ -6,10 +6,12 @@ mod line;
 mod names;
 mod numbers;
 mod object;
+mod refusal;
 mod values;
 
 pub use closing::{Closing, closing_line};
-pub use line::{line_of_bytes, line_of_parse};
+pub use line::line_of_parse;
+pub use refusal::refusal_line;
 
 #[cfg(test)]
 mod tests;

@@ -1,10 +1,10 @@
-ghost use Rattle.std.specs.Prelude.{◌≡◌, false, true, IfOk};
+ghost use Rattle.std.specs.Prelude.{◌≡◌, false, IfOk};
 ghost use Rattle.serde_json.specs.View.{view};
 ghost use Rattle.serde_json.specs.Written.{has_float};
 ghost use Rattle.ddl_types.specs.Plain.{IsPaired};
 ghost use Rattle.ddl_types.specs.PlainView.{plain_view};
 ghost use Rattle.ddl_report.specs.Values.{plain_data};
-ghost use Rattle.ddl_report.specs.Lines.{line_text, bytes_data, parse_data};
+ghost use Rattle.ddl_report.specs.Lines.{line_text, parse_data};
 
 use crate::names::place_name;
 use crate::object::put_text;
@@ -24,16 +24,6 @@ pub(crate) fn line_of(alloc: Global, value: &Value) -> Result<Vec<u8>, NoMemory>
     Ok(line)
 }
 
-fn bytes_value(alloc: Global, bytes: &[u8]) -> Result<Value, NoMemory>
-    ensures { IfOk result (λ v. view v ≡ bytes_data bytes.now) }
-{
-    let mut items = Vec::with_capacity(alloc, bytes.len())?;
-    for byte in bytes {
-        items.push(Value::from(*byte))?;
-    }
-    Ok(Value::Array(items))
-}
-
 /// The members of a parse.
 fn parse_value(alloc: Global, end: u64, in_input: bool, value: Value) -> Result<Value, NoMemory>
     ensures { IfOk result (λ v. view v ≡ parse_data end in_input (view value)) }
@@ -43,16 +33,6 @@ fn parse_value(alloc: Global, end: u64, in_input: bool, value: Value) -> Result<
     put_text(&mut members, alloc, "in", place_name(in_input))?;
     put(&mut members, alloc, "value", value)?;
     Ok(Value::Object(members))
-}
-
-/// The line of a parse in the input whose value is a list of bytes; `end` is the offset in bytes at which it ends.
-#[tactic(auto, using(crate::proofs::LineLemmas::line_lemmas))]
-pub fn line_of_bytes(alloc: Global, end: u64, value: &[u8]) -> Result<Vec<u8>, NoMemory>
-    ensures { IfOk result (λ line. line.items
-        ≡ line_text (parse_data end true (bytes_data value.now))) }
-{
-    let parse = parse_value(alloc, end, true, bytes_value(alloc, value)?)?;
-    line_of(alloc, &parse)
 }
 
 /// The line of a parse: its value, and the offset in bytes at which it ends, in the input or in an array. In the value

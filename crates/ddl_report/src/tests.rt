@@ -2,8 +2,8 @@ ghost use Rattle.ddl_types.specs.Plain.{IsPaired};
 ghost use Rattle.ddl_types.specs.PlainView.{plain_view};
 ghost use Rattle.ddl_report.specs.Closing.{HasItsText};
 
-use crate::{Closing, closing_line, line_of_bytes, line_of_parse};
-use ddl_base::{Bytes, NoMemory, Why};
+use crate::{Closing, closing_line, line_of_parse, refusal_line};
+use ddl_base::{Bytes, NoMemory, Stage, Told, Why};
 use ddl_types::{Fault, Num, Plain};
 use std::alloc::Global;
 use std::process::Abort;
@@ -100,6 +100,38 @@ fn stops(rt: HostRuntime) -> Result<(), Fail> {
     expect_closing(&rt, alloc, Closing::Large, "{\"stopped\":\"large\"}\n")?;
     expect_closing(&rt, alloc, Closing::Read, "{\"stopped\":\"read\"}\n")?;
     expect_closing(&rt, alloc, Closing::Unbuilt, "{\"stopped\":\"unbuilt\"}\n")?;
+    Ok(())
+}
+
+#[test]
+fn refusals(rt: HostRuntime) -> Result<(), Fail> {
+    let alloc = rt.alloc();
+    let bad_byte = Told {
+        stage: Stage::Lex,
+        number: 4,
+        module: Bytes::of(alloc, b"A")?,
+        from: 13,
+        to: 13,
+        more: Vec::new(alloc),
+    };
+    let line = refusal_line(alloc, &bad_byte)?;
+    assert_eq!(rt;
+        line.as_slice(),
+        b"{\"refused\":{\"code\":\"lex.4\",\"from\":13,\"module\":\"A\",\"more\":[],\"to\":13}}\n".as_slice()
+    );
+    let twice = Told {
+        stage: Stage::Names,
+        number: 2,
+        module: Bytes::of(alloc, b"A")?,
+        from: 19,
+        to: 23,
+        more: vec![in alloc; Bytes::of(alloc, b"4")?, Bytes::of(alloc, b"8")?]?,
+    };
+    let line = refusal_line(alloc, &twice)?;
+    assert_eq!(rt;
+        line.as_slice(),
+        b"{\"refused\":{\"code\":\"names.2\",\"from\":19,\"module\":\"A\",\"more\":[\"4\",\"8\"],\"to\":23}}\n".as_slice()
+    );
     Ok(())
 }
 
@@ -243,10 +275,5 @@ fn lists_and_maps(rt: HostRuntime) -> Result<(), Fail> {
         Plain::Map { keys, values },
         "{\"end\":7,\"in\":\"array\",\"value\":{\"$map\":[[1,[]],[2,false]]}}\n",
     )?;
-    let line = line_of_bytes(alloc, 2, b"ab")?;
-    assert_eq!(rt;
-        line.as_slice(),
-        b"{\"end\":2,\"in\":\"input\",\"value\":[97,98]}\n".as_slice()
-    );
     Ok(())
 }

@@ -1,100 +1,141 @@
--- Facts of the files that a run reads, and of what it may answer.
-use Rattle.std.proofs.Common.{◌≡◌, ℕ, ◌^◌, ◌≤◌, List, length, take, min, ap, sym, ◌∙◌, subst, inl, inr, arith}
-use Rattle.std.specs.Prelude.{Some, Result, Ok, Err, IfOk}
-use Rattle.std.proofs.lemmas.Option.{same_Some}
-use Rattle.std.proofs.lemmas.List.{take_min}
+-- What a call answers, put together from what its parts answer.
+use Rattle.std.proofs.Common.{◌≡◌, ℕ, ◌^◌, ◌<◌, ◌≤◌, List, [], ◌∷◌, length, refl, ap, sym, ◌∙◌, inl, inr, subst}
+use Rattle.std.specs.Prelude.{Result, Ok, Err, IfOk, Some, ◌⊎◌}
 use Rattle.ddl_base.specs.declared.memory.NoMemory.{NoMemory}
-use Rattle.ddl_outside.specs.Files.{FilesState, Later, HasLength, HasAt, IsFile, TouchesOnly}
-use Rattle.ddl_outside.specs.Filling.{ReadsBelow}
-use Rattle.ddl_outside.proofs.FilesLemmas.{file_begins, file_whole, IsFile-later, IsAbsent-earlier, IsFailed-earlier, Later-trans, TouchesOnly-trans}
-use Rattle.ddl_top.specs.Form.{Specification, answer}
-use Rattle.ddl_top.specs.Run.{IsAccepted, IsDenoted, ReadsInOrder}
-use Rattle.ddl_top.specs.Reading.{IsForm, IsGot, IsInputAnswer, IsModule, IsStart}
+use Rattle.ddl_outside.specs.Files.{FilesState, Later, IsFile, IsAbsent, IsFailed, TouchesOnly}
+use Rattle.ddl_outside.proofs.FilesLemmas.{IsAbsent-earlier, IsFailed-earlier, IsFile-later, Later-trans, TouchesOnly-trans}
+use Rattle.ddl_report.specs.declared.closing.Closing.TheVariants as closing_is
+use Rattle.ddl_show.specs.Show.{show_text}
+use Rattle.ddl_tree.specs.ModuleTree.{Module}
+use Rattle.ddl_simple.specs.Modules.{Declared}
+use Rattle.ddl_types.specs.Answer as answer
+use Rattle.ddl_top.specs.Answered.{closing_only, status_of}
+use Rattle.ddl_top.specs.Loaded.{HasTreeIn, IsRefused}
+use Rattle.ddl_top.specs.Reading.{IsAnswered, IsInputAnswer, IsTreeAnswer, TouchesInput}
+use Rattle.ddl_top.specs.Run.{IsAccepted, IsRunAnswer, IsShowAnswer, IsUnbuilt, RunsInOrder}
 use Rattle.ddl_top.specs.Words.{file_of, line_name}
-use Rattle.ddl_top.specs.declared.command.Answer.{Answer}
+use Rattle.ddl_top.specs.declared.answer.Answer.{Answer}
 use Rattle.ddl_top.specs.declared.status.Status.{Status}
-use Rattle.ddl_top.specs.declared.reading.Got.{Got}
-use Rattle.ddl_top.specs.declared.reading.Got.TheVariants as got_is
-use Rattle.ddl_top.specs.declared.reading.Module.{Module}
-use Rattle.ddl_top.specs.declared.reading.Module.TheVariants as module_is
-use Rattle.ddl_top.proofs.FormLemmas.{answer-take, answer_status, text-short}
+use Rattle.ddl_top.specs.declared.status.Status.TheVariants as status_is
 
--- the first bytes of a file, after its length was told
-start_from_got : (s0 s1 s2 : FilesState) (name : List ℕ) (n most : ℕ) (got : Got) → Later s0 s1 → Later s1 s2 → s1.told name ≡ Some n → HasLength s1.held name n
-    → IsGot s1 s2 name (min n most) got → IsStart s0 s2 name most got
-start_from_got s0 s1 s2 name n most (got_is.Bytes bytes) first second told has_length got =
-    let here : HasLength s2.held name n = rw second.held has_length in
-    let found = file_begins s2 name bytes.items n (second.told name n told) here got.1 (let e = got.0 in omega arith) in
-    let content : List ℕ = found.0 in
-    let long : n ≡ length content = same_Some n (length content) (sym (second.told name n told) ∙ found.1.0) in
-    let counted : length bytes.items ≡ min most (length content) = let e = got.0 in omega arith in
-    (content, found.1, found.2 ∙ (ap (λ (k : ℕ). take k content) counted ∙ take_min most content))
-start_from_got s0 s1 s2 name n most got_is.Absent first second told has_length got = IsAbsent-earlier s0 s1 s2 name first got
-start_from_got s0 s1 s2 name n most got_is.Failed first second told has_length got = IsFailed-earlier s0 s1 s2 first got
+-- a module that is printed
+pub IfOk-show : (root : List ℕ) (old new : FilesState) (tree : Module) (r : Result Answer NoMemory) → HasTreeIn new (file_of root) tree
+    → IfOk r (λ a. (a.status ≡ status_is.Parses) × (a.lines.items ≡ show_text tree ∷ [])) → IfOk r (λ a. IsShowAnswer root old new a.status a.lines.items)
+IfOk-show root old new tree (Ok a) has h = subst (λ s. IsShowAnswer root old new s a.lines.items) (sym h.0) (tree, has, h.1)
+IfOk-show root old new tree (Err e) has h = h
 
-pub IfOk-start : (s0 s1 s2 : FilesState) (name : List ℕ) (n most : ℕ) (r : Result Got NoMemory) → Later s0 s1 → Later s1 s2 → s1.told name ≡ Some n → HasLength s1.held name n
-    → IfOk r (IsGot s1 s2 name (min n most)) → IfOk r (IsStart s0 s2 name most)
-IfOk-start s0 s1 s2 name n most (Ok got) first second told has_length h = start_from_got s0 s1 s2 name n most got first second told has_length h
-IfOk-start s0 s1 s2 name n most (Err e) first second told has_length h = h
+-- a module that is refused with one line
+pub IfOk-show_refused : (root : List ℕ) (old new : FilesState) (line : List ℕ) (r : Result Answer NoMemory) → IsRefused old new (file_of root) (line_name root) (line ∷ [])
+    → IfOk r (λ a. (a.status ≡ status_is.Refused) × (a.lines.items ≡ line ∷ [])) → IfOk r (λ a. IsShowAnswer root old new a.status a.lines.items)
+IfOk-show_refused root old new line (Ok a) refused h =
+    subst (λ s. IsShowAnswer root old new s a.lines.items) (sym h.0) (subst (IsRefused old new (file_of root) (line_name root)) (sym h.1) refused)
+IfOk-show_refused root old new line (Err e) refused h = h
 
--- a module's bytes, after its length was told
-module_from_form : (s0 s1 s2 : FilesState) (name bytes : List ℕ) (n : ℕ) (m : Module) → Later s1 s2 → s1.told name ≡ Some n → HasLength s1.held name n
-    → length bytes ≡ n → n ≤ 2 ^ 16 → HasAt s2.held name 0 bytes → IsForm bytes m → IsModule s0 s2 name m
-module_from_form s0 s1 s2 name bytes n m second told has_length long short has_bytes form = by_form m form where
-  file : IsFile s2 name bytes
-  file = file_whole s2 name bytes (rw long (second.told name n told)) (let here : HasLength s2.held name n = rw second.held has_length in rw long here) has_bytes
+pub IfOk-run_refused : (root input : List ℕ) (old new : FilesState) (line : List ℕ) (r : Result Answer NoMemory) → TouchesOnly (file_of root) old new
+    → IsRefused old new (file_of root) (line_name root) (line ∷ []) → IfOk r (λ a. (a.status ≡ status_is.Refused) × (a.lines.items ≡ line ∷ []))
+    → IfOk r (λ a. IsRunAnswer root input old new a.status a.lines.items)
+IfOk-run_refused root input old new line (Ok a) only refused h =
+    subst (λ s. IsRunAnswer root input old new s a.lines.items) (sym h.0) (only, inl (subst (IsRefused old new (file_of root) (line_name root)) (sym h.1) refused))
+IfOk-run_refused root input old new line (Err e) only refused h = h
 
-  within : length bytes ≤ 2 ^ 16
-  within = omega (arith, long, short)
+-- what a module's tree is answered after its file was read is what the call is answered
+run_of_input : (root input : List ℕ) (a b c : FilesState) (status : Status) (lines : List (List ℕ)) → Later a b → IsInputAnswer root input b c status lines → IsRunAnswer root input a c status lines
+run_of_input root input a b c status_is.Parses lines first h = h
+run_of_input root input a b c status_is.NoParse lines first h = h
+run_of_input root input a b c status_is.Words lines first h = absurd h
+run_of_input root input a b c status_is.Refused lines first h = absurd h
+run_of_input root input a b c status_is.Fault lines first h = h
+run_of_input root input a b c status_is.Spent lines first h = absurd h
+run_of_input root input a b c status_is.ReadFault lines first h = (IsFailed-earlier a b c first h.0, h.1)
+run_of_input root input a b c status_is.WriteFault lines first h = absurd h
+run_of_input root input a b c status_is.Missing lines first h = inr (h.0, h.1, IsAbsent-earlier a b c input first h.2, h.3)
+run_of_input root input a b c status_is.NoMemory lines first h = absurd h
+run_of_input root input a b c status_is.TooLarge lines first h = h
 
-  by_form : (m : Module) → IsForm bytes m → IsModule s0 s2 name m
-  by_form (module_is.Text text) form = ((bytes, file, within, form), let t = text-short bytes text.items form in let w = within in omega arith)
-  by_form module_is.Unbuilt form = inr (bytes, file, form)
-  by_form module_is.Absent form = absurd form
-  by_form module_is.Failed form = absurd form
+run_of_tree : (root input : List ℕ) (a b c : FilesState) (status : Status) (lines : List (List ℕ)) → Later a b → TouchesOnly (file_of root) a b → IsTreeAnswer root input b c status lines → IsRunAnswer root input a c status lines
+run_of_tree root input a b c status_is.Refused lines first only h = (subst (λ s. TouchesOnly (file_of root) a s) (sym h.2) only, inr (h.0, h.1))
+run_of_tree root input a b c status_is.Parses lines first only h = run_of_input root input a b c status_is.Parses lines first h
+run_of_tree root input a b c status_is.NoParse lines first only h = run_of_input root input a b c status_is.NoParse lines first h
+run_of_tree root input a b c status_is.Words lines first only h = absurd h
+run_of_tree root input a b c status_is.Fault lines first only h = run_of_input root input a b c status_is.Fault lines first h
+run_of_tree root input a b c status_is.Spent lines first only h = absurd h
+run_of_tree root input a b c status_is.ReadFault lines first only h = run_of_input root input a b c status_is.ReadFault lines first h
+run_of_tree root input a b c status_is.WriteFault lines first only h = absurd h
+run_of_tree root input a b c status_is.Missing lines first only h = run_of_input root input a b c status_is.Missing lines first h
+run_of_tree root input a b c status_is.NoMemory lines first only h = absurd h
+run_of_tree root input a b c status_is.TooLarge lines first only h = run_of_input root input a b c status_is.TooLarge lines first h
 
-pub IfOk-module : (s0 s1 s2 : FilesState) (name bytes : List ℕ) (n : ℕ) (r : Result Module NoMemory) → Later s1 s2 → s1.told name ≡ Some n → HasLength s1.held name n
-    → length bytes ≡ n → n ≤ 2 ^ 16 → HasAt s2.held name 0 bytes → IfOk r (IsForm bytes) → IfOk r (IsModule s0 s2 name)
-IfOk-module s0 s1 s2 name bytes n (Ok m) second told has_length long short has_bytes h = module_from_form s0 s1 s2 name bytes n m second told has_length long short has_bytes h
-IfOk-module s0 s1 s2 name bytes n (Err e) second told has_length long short has_bytes h = h
+pub IfOk-run : (root input : List ℕ) (a b c : FilesState) (r : Result Answer NoMemory) → Later a b → TouchesOnly (file_of root) a b → IfOk r (λ x. IsTreeAnswer root input b c x.status x.lines.items)
+    → IfOk r (λ x. IsRunAnswer root input a c x.status x.lines.items)
+IfOk-run root input a b c (Ok x) first only h = run_of_tree root input a b c x.status x.lines.items first only h
+IfOk-run root input a b c (Err e) first only h = h
 
-pub IsAccepted-later : (a b : FilesState) (file : List ℕ) (specification : Specification) → Later a b → IsAccepted a file specification → IsAccepted b file specification
-IsAccepted-later a b file specification later h = (h.0, IsFile-later a b file h.0 later h.1, h.2, h.3)
-
--- what a text answers on the first bytes of the input is what the module denotes
-denoted : (root input text start content : List ℕ) (files : FilesState) (status : Status) (lines : List (List ℕ)) → IsAccepted files (file_of root) text → IsFile files input content
-    → start ≡ take (length text) content → (status, lines) ≡ answer (line_name root) text start → IsDenoted root input files status lines
-denoted root input text start content files status lines accepted file is h =
-    (text, content, accepted, file, h ∙ (ap (answer (line_name root) text) is ∙ answer-take (line_name root) text content))
-
--- what the module denotes is a parse or none
-denoted_answer : (root input : List ℕ) (old new : FilesState) (status : Status) (lines : List (List ℕ)) → IsDenoted root input new status lines → IsInputAnswer root input old new status lines
-denoted_answer root input old new status lines h =
-    let P : Status → Type 0 = λ s. IsDenoted root input new s lines → IsInputAnswer root input old new s lines in
-    elim (answer_status (line_name root) h.0 h.1 status lines h.4) [
-      | inl parses ↦ subst P (sym parses) (λ d. d) h
-      | inr none ↦ subst P (sym none) (λ d. d) h
-    ]
-
-pub IfOk-text : (root input text start content : List ℕ) (old new : FilesState) (r : Result Answer NoMemory) → IsAccepted new (file_of root) text → IsFile new input content → start ≡ take (length text) content
-    → IfOk r (λ a. (a.status, a.lines.items) ≡ answer (line_name root) text start) → IfOk r (λ a. IsInputAnswer root input old new a.status a.lines.items)
-IfOk-text root input text start content old new (Ok a) accepted file is h =
-    denoted_answer root input old new a.status a.lines.items (denoted root input text start content new a.status a.lines.items accepted file is h)
-IfOk-text root input text start content old new (Err e) accepted file is h = h
-
--- the module was read, and then the input
-pub reads_in_order : (root input : List ℕ) (a b c : FilesState) (text : List ℕ) → Later b c → TouchesOnly (file_of root) a b → TouchesOnly input b c → ReadsBelow input (length text) b c
-    → IsAccepted b (file_of root) text → ReadsInOrder root input a c
-reads_in_order root input a b c text later first second below accepted = inr (
-  text,
-  IsAccepted-later b c (file_of root) text later accepted,
+-- the module was read, and then at most the input
+pub runs_in_order : (root input : List ℕ) (a b c : FilesState) → TouchesOnly (file_of root) a b → TouchesInput root input b c → RunsInOrder root input a c
+runs_in_order root input a b c first (inl same) = inl (subst (λ s. TouchesOnly (file_of root) a s) (sym same) first)
+runs_in_order root input a b c first (inr second) = inr (
+  second.0,
+  second.1,
   record {
-    told = λ other h k. second.told other k ∙ first.told other h;
-    reach = λ other h k. second.reach other k ∙ first.reach other h;
-    below = λ h. let same : b.reach input ≡ a.reach input = first.reach input h in omega (arith, below);
+    told = λ other h k. second.2.told other k ∙ first.told other h;
+    reach = λ other h k. second.2.reach other k ∙ first.reach other h;
   },
 )
 
-pub ruleset reading_lemmas = (Later-trans, TouchesOnly-trans)
+-- an input's answer is one of a tree
+tree_of_input : (root input : List ℕ) (old new : FilesState) (status : Status) (lines : List (List ℕ)) → IsInputAnswer root input old new status lines → IsTreeAnswer root input old new status lines
+tree_of_input root input old new status_is.Refused lines h = absurd h
+tree_of_input root input old new status_is.Parses lines h = h
+tree_of_input root input old new status_is.NoParse lines h = h
+tree_of_input root input old new status_is.Words lines h = absurd h
+tree_of_input root input old new status_is.Fault lines h = h
+tree_of_input root input old new status_is.Spent lines h = absurd h
+tree_of_input root input old new status_is.ReadFault lines h = h
+tree_of_input root input old new status_is.WriteFault lines h = absurd h
+tree_of_input root input old new status_is.Missing lines h = h
+tree_of_input root input old new status_is.NoMemory lines h = absurd h
+tree_of_input root input old new status_is.TooLarge lines h = h
+
+pub IfOk-tree : (root input : List ℕ) (old new : FilesState) (r : Result Answer NoMemory) → IfOk r (λ a. IsInputAnswer root input old new a.status a.lines.items) → IfOk r (λ a. IsTreeAnswer root input old new a.status a.lines.items)
+IfOk-tree root input old new (Ok a) h = tree_of_input root input old new a.status a.lines.items h
+IfOk-tree root input old new (Err e) h = h
+
+-- ---- an accepted module and its input
+
+pub IsAccepted-later : (a b : FilesState) (file : List ℕ) (spec : Declared) → Later a b → IsAccepted a file spec → IsAccepted b file spec
+IsAccepted-later a b file spec later h = (h.0, (h.1.0, IsFile-later a b file h.1.0 later h.1.1, h.1.2, h.1.3), h.2)
+
+-- what a specification denotes of the content of the input
+input_of_answered : (root input : List ℕ) (old new : FilesState) (spec : Declared) (content : List ℕ) (status : Status) (lines : List (List ℕ)) → IsAccepted new (file_of root) spec → IsFile new input content
+    → length content ≤ 2 ^ 30 → IsAnswered (line_name root) spec content status lines → IsInputAnswer root input old new status lines
+input_of_answered root input old new spec content status lines accepted file within h = by_closing h.0.closing refl h.2 where
+  by_closing : (c : answer.Closing) → h.0.closing ≡ c → status ≡ status_of c → IsInputAnswer root input old new status lines
+  by_closing (answer.counted n) e s =
+      subst (λ t. IsInputAnswer root input old new t lines) (sym s) (spec, content, h.0, accepted, file, within, h.1, sym (ap status_of e), h.3)
+  by_closing (answer.failed f) e s =
+      subst (λ t. IsInputAnswer root input old new t lines) (sym s) (spec, content, h.0, accepted, file, within, h.1, sym (ap status_of e), h.3)
+  by_closing (answer.faulted fault span) e s =
+      subst (λ t. IsInputAnswer root input old new t lines) (sym s) (spec, content, h.0, accepted, file, within, h.1, sym (ap status_of e), h.3)
+
+pub IfOk-input : (root input : List ℕ) (old new : FilesState) (spec : Declared) (content : List ℕ) (r : Result Answer NoMemory) → IsAccepted new (file_of root) spec → IsFile new input content
+    → length content ≤ 2 ^ 30 → IfOk r (λ a. IsAnswered (line_name root) spec content a.status a.lines.items) → IfOk r (λ a. IsInputAnswer root input old new a.status a.lines.items)
+IfOk-input root input old new spec content (Ok a) accepted file within h = input_of_answered root input old new spec content a.status a.lines.items accepted file within h
+IfOk-input root input old new spec content (Err e) accepted file within h = h
+
+pub IfOk-large : (root input : List ℕ) (old new : FilesState) (spec : Declared) (n : ℕ) (r : Result Answer NoMemory) → IsAccepted new (file_of root) spec → new.told input ≡ Some n → 2 ^ 30 < n
+    → IfOk r (λ a. (a.status ≡ status_is.TooLarge) × (a.lines.items ≡ closing_only closing_is.Large)) → IfOk r (λ a. IsInputAnswer root input old new a.status a.lines.items)
+IfOk-large root input old new spec n (Ok a) accepted told above h = subst (λ s. IsInputAnswer root input old new s a.lines.items) (sym h.0) (spec, n, accepted, told, above, h.1)
+IfOk-large root input old new spec n (Err e) accepted told above h = h
+
+pub IfOk-missing : (root input : List ℕ) (old new : FilesState) (spec : Declared) (r : Result Answer NoMemory) → IsAccepted new (file_of root) spec → IsAbsent old new input
+    → IfOk r (λ a. (a.status ≡ status_is.Missing) × (a.lines.items ≡ closing_only (closing_is.Missing input))) → IfOk r (λ a. IsInputAnswer root input old new a.status a.lines.items)
+IfOk-missing root input old new spec (Ok a) accepted absent h = subst (λ s. IsInputAnswer root input old new s a.lines.items) (sym h.0) (spec, accepted, absent, h.1)
+IfOk-missing root input old new spec (Err e) accepted absent h = h
+
+-- a tree of no form that is run so far
+pub IfOk-unbuilt : (root input : List ℕ) (files : FilesState) (r : Result Answer NoMemory) → IsUnbuilt files (file_of root)
+    → IfOk r (λ a. (a.status ≡ status_is.Refused) × (a.lines.items ≡ closing_only closing_is.Unbuilt)) → IfOk r (λ a. IsTreeAnswer root input files files a.status a.lines.items)
+IfOk-unbuilt root input files (Ok a) unbuilt h = subst (λ s. IsTreeAnswer root input files files s a.lines.items) (sym h.0) (unbuilt, h.1, refl)
+IfOk-unbuilt root input files (Err e) unbuilt h = h
 
 pub ruleset run_lemmas = (Later-trans)

@@ -1,4 +1,5 @@
-pub mod Form
+pub mod Answered
+pub mod Loaded
 pub mod Reading
 pub mod Run
 pub mod Status

@@ -2,10 +2,16 @@
 use Rattle.std.specs.Prelude.{ℕ, List, [], ◌∷◌, ◌++◌, ◌==◌, Option, Some, None, if◌then◌else◌, codes}
 use Rattle.std.specs.Str.{bytes_eq}
 
--- the module and the input of the words `run MODULE INPUT`
-abbrev pub run_words : List (List ℕ) → Option (List ℕ × List ℕ)
-run_words (command ∷ root ∷ input ∷ []) = if bytes_eq command (codes "run") then Some (root, input) else None
-run_words _ = None
+-- what the words ask for: a run of a module on an input, or a module printed
+pub data Command : Type 0 where
+  run_of : List ℕ → List ℕ → Command
+  show_of : List ℕ → Command
+
+-- `run MODULE INPUT` and `show MODULE`
+abbrev pub command_of : List (List ℕ) → Option Command
+command_of (word ∷ root ∷ input ∷ []) = if bytes_eq word (codes "run") then Some (run_of root input) else None
+command_of (word ∷ root ∷ []) = if bytes_eq word (codes "show") then Some (show_of root) else None
+command_of _ = None
 
 -- the file of a module
 abbrev pub file_of : List ℕ → List ℕ

@@ -1,147 +1,111 @@
-ghost use Rattle.std.specs.Prelude.{◌≡◌, ◌^◌, ◌≤◌, length, map, string_bytes, IfOk};
+ghost use Rattle.std.specs.Prelude.{◌≡◌, ◌∷◌, [], map, string_bytes, IfOk};
 ghost use Rattle.ddl_outside.specs.Files.{Later, TouchesOnly};
-ghost use Rattle.ddl_outside.specs.Filling.{ReadsBelow};
-ghost use Rattle.ddl_report.specs.Closing.{HasItsText};
-ghost use Rattle.ddl_top.specs.Form.{answer, closing_only, fail_lines, parse_lines};
-ghost use Rattle.ddl_top.specs.Run.{IsAccepted, IsAnswer, IsOfTheModule, IsRun, IsRunAnswer};
-ghost use Rattle.ddl_top.specs.Run.{NothingFailed, ReadsInOrder, TouchesInOrder};
-ghost use Rattle.ddl_top.specs.Reading.{IsInputAnswer};
-ghost use Rattle.ddl_top.specs.Words.{file_of, line_name};
+ghost use Rattle.ddl_report.specs.Lines.{line_text};
+ghost use Rattle.ddl_report.specs.Refusal.{told_data};
+ghost use Rattle.ddl_show.specs.Show.{show_text};
+ghost use Rattle.ddl_tree.specs.ViewModule.{module_view};
+ghost use Rattle.ddl_typed.specs.Simple.{IsSimple};
+ghost use Rattle.ddl_simple.specs.Modules.{declared_view};
+ghost use Rattle.ddl_typed.specs.View.{view};
+ghost use Rattle.ddl_top.specs.Loaded.{HasTreeIn};
+ghost use Rattle.ddl_top.specs.Reading.{IsInputAnswer, IsTreeAnswer, TouchesInput};
+ghost use Rattle.ddl_top.specs.Run.{IsAccepted, IsOfTheModule, IsRun, IsRunAnswer, IsShowAnswer, IsWordsAnswer};
+ghost use Rattle.ddl_top.specs.Run.{NothingFailed, RunsInOrder, TouchesInOrder};
+ghost use Rattle.ddl_top.specs.Words.{file_of};
 
-use crate::form::common;
-use crate::names::{line_name, module_file, run_words};
-use crate::reading::{Got, Module, read_module, start_of};
+use crate::answer::{Answer, closing_answer, denoted_answer, missing_answer};
+use crate::loading::{Loaded, load};
+use crate::names::{Words, command_of, line_name, module_file};
 use crate::status::Status;
-use ddl_base::{Bytes, NoMemory, Why};
-use ddl_outside::{Files, Sink, Written, write_lines};
-use ddl_report::{Closing, closing_line, line_of_bytes};
+use ddl_base::{Bytes, NoMemory, Told};
+use ddl_outside::{Files, Sink, Whole, Written, read_whole, write_lines};
+use ddl_report::{Closing, refusal_line};
+use ddl_show::show;
+use ddl_simple::specified;
+use ddl_tree::Module;
+use ddl_typed::TDecl;
 use std::alloc::Global;
 
-/// Where `Match` stands in a module of the accepted form.
-const MATCH_FROM: u32 = 11;
+/// An input of more bytes is too large: 2^30.
+const MOST_INPUT: u64 = 1_073_741_824;
 
-/// Where a `Match` of no text ends there.
-const MATCH_TO: u32 = 19;
-
-/// How a call ends, and the lines that it writes.
-#[derive(Debug, Drop)]
-struct Answer {
-    status: Status,
-    lines: Vec<Bytes>,
-}
-
-/// An answer of one line.
-fn closing_answer(alloc: Global, status: Status, closing: &Closing) -> Result<Answer, NoMemory>
-    requires { HasItsText closing.now }
-    ensures { IfOk result (λ a. (a.status ≡ status) × (a.lines.items ≡ closing_only closing.now)) }
+/// The answer of a module that is refused.
+fn refused_answer(alloc: Global, told: &Told) -> Result<Answer, NoMemory>
+    ensures { IfOk result (λ a. (a.status ≡ Status.Refused) × (a.lines.items ≡ line_text (told_data told.now) ∷ [])) }
 {
     let mut lines = Vec::new(alloc);
-    lines.push(Bytes::from(closing_line(alloc, closing)?))?;
-    Ok(Answer { status, lines })
-}
-
-/// The answer of a file that is not there.
-fn missing_answer(alloc: Global, name: &str) -> Result<Answer, NoMemory>
-    ensures { IfOk result (λ a. (a.status ≡ Status.Missing)
-        × (a.lines.items ≡ closing_only (Closing.Missing name.now))) }
-{
-    let name = Bytes::of(alloc, name.as_bytes())?;
-    closing_answer(alloc, Status::Missing, &Closing::Missing { name })
-}
-
-/// The answer of a text that the input begins with.
-fn parse_answer(alloc: Global, text: &[u8]) -> Result<Answer, NoMemory>
-    ensures { IfOk result (λ a. (a.status ≡ Status.Parses)
-        × (a.lines.items ≡ parse_lines text.now)) }
-{
-    let mut lines = Vec::new(alloc);
-    let end = text.len() as u64;
-    lines.push(Bytes::from(line_of_bytes(alloc, end, text)?))?;
-    let closing = Closing::Parses { number: 1 };
-    lines.push(Bytes::from(closing_line(alloc, &closing)?))?;
+    lines.push(Bytes::from(refusal_line(alloc, told)?))?;
     Ok(Answer {
-        status: Status::Parses,
+        status: Status::Refused,
         lines,
     })
 }
 
-/// The answer of a text that differs from the input at an offset.
-fn fail_answer(alloc: Global, name: &[u8], text: &[u8], at: usize) -> Result<Answer, NoMemory>
-    requires { length text.now ≤ 2 ^ 16 }
-    ensures { IfOk result (λ a. (a.status ≡ Status.NoParse)
-        × (a.lines.items ≡ fail_lines name.now text.now at)) }
-{
-    let closing = Closing::Fail {
-        why: Why::Match,
-        in_input: true,
-        at: at as u64,
-        module: Bytes::of(alloc, name)?,
-        from: MATCH_FROM,
-        to: MATCH_TO + text.len() as u32,
-        text: None,
-    };
-    closing_answer(alloc, Status::NoParse, &closing)
-}
-
-/// The answer of a text on the first bytes of the input, as far as the text is long.
-fn text_answer(alloc: Global, name: &[u8], text: &[u8], start: &[u8]) -> Result<Answer, NoMemory>
-    requires { length text.now ≤ 2 ^ 16 }
-    ensures { IfOk result (λ a. (a.status, a.lines.items) ≡ answer name.now text.now start.now) }
-{
-    if start.starts_with(text) {
-        parse_answer(alloc, text)
-    } else {
-        fail_answer(alloc, name, text, common(text, start))
-    }
-}
-
-/// The answer of an accepted text on an input file.
-fn matched_answer<F: Files>(
+/// The answer of an accepted specification on an input file.
+fn input_answer<F: Files>(
     alloc: Global,
     files: &mut F,
     root: &str,
     input: &str,
-    text: &[u8],
+    spec: &TDecl,
 ) -> Result<Answer, NoMemory>
-    requires short { length text.now ≤ 2 ^ 16 }
-    requires accepted { IsAccepted (F.state files.old) (file_of root.now) text.now }
+    requires simple { IsSimple (view spec.now.body) 0 }
+    requires accepted { IsAccepted (F.state files.old) (file_of root.now) (declared_view spec.now) }
     ensures later { Later (F.state files.old) (F.state files.new) }
     ensures only { TouchesOnly input.now (F.state files.old) (F.state files.new) }
-    ensures reach { ReadsBelow input.now (length text.now) (F.state files.old) (F.state files.new) }
     ensures answer { IfOk result (λ a. IsInputAnswer root.now input.now
         (F.state files.old) (F.state files.new) a.status a.lines.items) }
 {
-    match start_of(alloc, files, input, text.len())? {
-        Got::Bytes(start) => text_answer(alloc, line_name(root.as_bytes()), text, &start),
-        Got::Absent => missing_answer(alloc, input),
-        Got::Failed => closing_answer(alloc, Status::ReadFault, &Closing::Read),
+    match read_whole(alloc, files, input, MOST_INPUT)? {
+        Whole::Bytes(content) => {
+            denoted_answer(alloc, line_name(root.as_bytes()), spec, &content)
+        }
+        Whole::Longer(_) => closing_answer(alloc, Status::TooLarge, &Closing::Large),
+        Whole::Absent => missing_answer(alloc, input),
+        Whole::Failed => closing_answer(alloc, Status::ReadFault, &Closing::Read),
     }
 }
 
-/// The answer of a module's file on an input file.
-#[tactic(auto, using(crate::proofs::RunLemmas::run_lemmas))]
-fn file_answer<F: Files>(
+/// The answer of an accepted specification, which is dropped then.
+fn spec_answer<F: Files>(
     alloc: Global,
     files: &mut F,
     root: &str,
     input: &str,
-    file: &str,
+    spec: TDecl,
 ) -> Result<Answer, NoMemory>
-    requires { file.now ≡ file_of root.now }
+    requires simple { IsSimple (view spec.body) 0 }
+    requires accepted { IsAccepted (F.state files.old) (file_of root.now) (declared_view spec) }
     ensures later { Later (F.state files.old) (F.state files.new) }
-    ensures order { ReadsInOrder root.now input.now (F.state files.old) (F.state files.new) }
-    ensures answer { IfOk result (λ a. IsRunAnswer root.now input.now
+    ensures only { TouchesOnly input.now (F.state files.old) (F.state files.new) }
+    ensures answer { IfOk result (λ a. IsInputAnswer root.now input.now
         (F.state files.old) (F.state files.new) a.status a.lines.items) }
 {
-    match read_module(alloc, files, file)? {
-        Module::Text(text) => matched_answer(alloc, files, root, input, &text),
-        Module::Unbuilt => closing_answer(alloc, Status::Refused, &Closing::Unbuilt),
-        Module::Absent => missing_answer(alloc, file),
-        Module::Failed => closing_answer(alloc, Status::ReadFault, &Closing::Read),
+    input_answer(alloc, files, root, input, &spec)
+}
+
+/// The answer of a module's tree on an input file.
+fn tree_answer<F: Files>(
+    alloc: Global,
+    files: &mut F,
+    root: &str,
+    input: &str,
+    tree: &Module,
+) -> Result<Answer, NoMemory>
+    requires { HasTreeIn (F.state files.old) (file_of root.now) (module_view tree.now) }
+    ensures later { Later (F.state files.old) (F.state files.new) }
+    ensures order { TouchesInput root.now input.now (F.state files.old) (F.state files.new) }
+    ensures answer { IfOk result (λ a. IsTreeAnswer root.now input.now
+        (F.state files.old) (F.state files.new) a.status a.lines.items) }
+{
+    match specified(alloc, tree)? {
+        Some(spec) => spec_answer(alloc, files, root, input, spec),
+        None => closing_answer(alloc, Status::Refused, &Closing::Unbuilt),
     }
 }
 
-/// The answer to the command `run`.
+/// The answer to `run MODULE INPUT`.
+#[tactic(auto, using(crate::proofs::RunLemmas::run_lemmas))]
 fn run_answer<F: Files>(
     alloc: Global,
     files: &mut F,
@@ -149,12 +113,46 @@ fn run_answer<F: Files>(
     input: &str,
 ) -> Result<Answer, NoMemory>
     ensures later { Later (F.state files.old) (F.state files.new) }
-    ensures order { ReadsInOrder root.now input.now (F.state files.old) (F.state files.new) }
+    ensures order { RunsInOrder root.now input.now (F.state files.old) (F.state files.new) }
     ensures answer { IfOk result (λ a. IsRunAnswer root.now input.now
         (F.state files.old) (F.state files.new) a.status a.lines.items) }
 {
     let file = module_file(alloc, root)?;
-    file_answer(alloc, files, root, input, file.as_str())
+    match load(alloc, files, file.as_str(), line_name(root.as_bytes()))? {
+        Loaded::Tree(tree) => tree_answer(alloc, files, root, input, &tree),
+        Loaded::Refused(told) => refused_answer(alloc, &told),
+        Loaded::Absent => missing_answer(alloc, file.as_str()),
+        Loaded::Failed => closing_answer(alloc, Status::ReadFault, &Closing::Read),
+    }
+}
+
+/// The text of a module's tree.
+fn text_answer(alloc: Global, tree: &Module) -> Result<Answer, NoMemory>
+    ensures { IfOk result (λ a. (a.status ≡ Status.Parses) × (a.lines.items ≡ show_text (module_view tree.now) ∷ [])) }
+{
+    let mut lines = Vec::new(alloc);
+    lines.push(Bytes::from(show(alloc, tree)?))?;
+    Ok(Answer {
+        status: Status::Parses,
+        lines,
+    })
+}
+
+/// The answer to `show MODULE`.
+#[tactic(auto, using(crate::proofs::RunLemmas::run_lemmas))]
+fn show_answer<F: Files>(alloc: Global, files: &mut F, root: &str) -> Result<Answer, NoMemory>
+    ensures later { Later (F.state files.old) (F.state files.new) }
+    ensures order { TouchesOnly (file_of root.now) (F.state files.old) (F.state files.new) }
+    ensures answer { IfOk result (λ a. IsShowAnswer root.now
+        (F.state files.old) (F.state files.new) a.status a.lines.items) }
+{
+    let file = module_file(alloc, root)?;
+    match load(alloc, files, file.as_str(), line_name(root.as_bytes()))? {
+        Loaded::Tree(tree) => text_answer(alloc, &tree),
+        Loaded::Refused(told) => refused_answer(alloc, &told),
+        Loaded::Absent => missing_answer(alloc, file.as_str()),
+        Loaded::Failed => closing_answer(alloc, Status::ReadFault, &Closing::Read),
+    }
 }
 
 /// The answer to the words of a command line.
@@ -162,11 +160,12 @@ fn answer_to<F: Files>(alloc: Global, words: &[String], files: &mut F) -> Result
     ensures later { Later (F.state files.old) (F.state files.new) }
     ensures order { TouchesInOrder (map string_bytes words.now)
         (F.state files.old) (F.state files.new) }
-    ensures answer { IfOk result (λ a. IsAnswer (map string_bytes words.now)
+    ensures answer { IfOk result (λ a. IsWordsAnswer (map string_bytes words.now)
         (F.state files.old) (F.state files.new) a.status a.lines.items) }
 {
-    match run_words(words) {
-        Some(words) => run_answer(alloc, files, words.root, words.input),
+    match command_of(words) {
+        Some(Words::Run { root, input }) => run_answer(alloc, files, root, input),
+        Some(Words::Show { root }) => show_answer(alloc, files, root),
         None => closing_answer(alloc, Status::Words, &Closing::Words),
     }
 }
@@ -174,8 +173,8 @@ fn answer_to<F: Files>(alloc: Global, words: &[String], files: &mut F) -> Result
 /// Does what the words of the command line say, which are its arguments without the program's
 /// name: reads files, writes lines, and says how that ended.
 ///
-/// Accepted is `run MODULE INPUT`, which matches the file INPUT against the one specification that
-/// the file MODULE.ddl holds, and writes a line for each parse and one for the end.
+/// `run MODULE INPUT` runs the specification that the file MODULE.ddl holds on the file INPUT, and writes a line for each
+/// parse and one for the end. `show MODULE` writes the module as it was read, a line for each import and declaration.
 pub fn run<F: Files, S: Sink>(
     alloc: Global,
     words: &Vec<String>,
@@ -186,8 +185,7 @@ pub fn run<F: Files, S: Sink>(
     ensures answer { IsRun (map string_bytes words.now.items)
         (F.state files.old) (F.state files.new) (S.state out.old) (S.state out.new) result }
 
-    // Faulty words touch no file. The input is not touched before the module is accepted, and no
-    // byte of it is read that the module does not look at.
+    // Faulty words touch no file, and nothing but the module's file is touched before the module is accepted.
     ensures order { TouchesInOrder (map string_bytes words.now.items)
         (F.state files.old) (F.state files.new) }
 

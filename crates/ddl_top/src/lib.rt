@@ -1,10 +1,11 @@
 //! What the program does with the words of its command line.
 #![tactic(auto)]
 
+mod answer;
 mod command;
-mod form;
+mod loading;
 mod names;
-mod reading;
+mod refusal;
 mod status;
 
 pub use command::run;

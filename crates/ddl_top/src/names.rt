@@ -1,25 +1,31 @@
 ghost use Rattle.std.specs.Prelude.{◌≡◌, ◌≤◌, map, string_bytes, option_map, IfOk};
-ghost use Rattle.ddl_top.specs.Words.{file_of, line_name, run_words};
+ghost use Rattle.ddl_top.specs.Reading.{command_view};
+ghost use Rattle.ddl_top.specs.Words.{command_of, file_of, line_name};
 
 use ddl_base::NoMemory;
 use std::alloc::Global;
 
-/// The words behind the command `run`.
+/// What the words of a command line ask for.
 #[derive(Clone, Copy)]
-pub(crate) struct RunWords<'a> {
-    pub(crate) root: &'a str,
-    pub(crate) input: &'a str,
+pub(crate) enum Words<'a> {
+    /// A run of a module on an input.
+    Run { root: &'a str, input: &'a str },
+    /// A module, printed.
+    Show { root: &'a str },
 }
 
-/// The words of a command line, where they are `run MODULE INPUT`.
-pub(crate) fn run_words(words: &[String]) -> Option<RunWords<'_>>
-    ensures { option_map (λ w. (w.root.now, w.input.now)) result
-        ≡ run_words (map string_bytes words.now) }
+/// The words of a command line, where they are `run MODULE INPUT` or `show MODULE`.
+pub(crate) fn command_of(words: &[String]) -> Option<Words<'_>>
+    ensures { option_map command_view result ≡ command_of (map string_bytes words.now) }
 {
     if words.len() == 3 && words[0].as_str() == "run" {
-        Some(RunWords {
+        Some(Words::Run {
             root: words[1].as_str(),
             input: words[2].as_str(),
+        })
+    } else if words.len() == 2 && words[0].as_str() == "show" {
+        Some(Words::Show {
+            root: words[1].as_str(),
         })
     } else {
         None

@@ -1,0 +1,33 @@
+#!/bin/sh
+# Times runs of the program: a short block on a file of 100 MB beside the reading of that file, and a block of 2,000 items
+# on 2,000 bytes beside one of 1,000 on 1,000. Prints ratios; start-up, timed with no words, is taken off.
+. "$(dirname -- "$0")/program.sh"
+ddl=$top/ddl
+"$ddl" >/dev/null 2>&1
+
+# The milliseconds of a run of module $1 on input $2, without start-up.
+run_of() { echo $(($(milliseconds "$ddl" run "$folder/$1" "$folder/$2") - start)); }
+
+block_of() {
+    printf 'def Main = block {'
+    i=1
+    while [ "$i" -lt "$1" ]; do printf ' UInt8;'; i=$((i + 1)); done
+    printf ' UInt8 }'
+}
+
+start_up() { "$ddl" || true; }
+start=$(milliseconds start_up)
+
+printf 'def Main = block { UInt8; UInt8 }' >"$folder/pair.ddl"
+head -c 100000000 /dev/zero >"$folder/large"
+once=$(milliseconds cksum "$folder/large")
+pair=$(run_of pair large)
+echo "a block of two bytes on 100 MB: $pair ms, $((pair * 100 / (once + 1))) % of reading the file once with cksum ($once ms)"
+
+for n in 1000 2000; do
+    block_of "$n" >"$folder/block$n.ddl"
+    head -c "$n" /dev/zero >"$folder/bytes$n"
+done
+small=$(run_of block1000 bytes1000)
+great=$(run_of block2000 bytes2000)
+echo "a block of 2,000 items: $great ms, $((great * 100 / (small + 1))) % of one of 1,000 ($small ms)"
