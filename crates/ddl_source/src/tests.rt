@@ -130,15 +130,8 @@ fn no_mark_ends_the_last_item(rt: HostRuntime) -> Result<(), Fail> {
     let alloc = rt.alloc();
     let found = tree_of(alloc, 0, b"def Main = block { A; }");
     assert!(rt;
-        matches!(
-            found,
-            Err(SourceError::Unexpected {
-                token: 7,
-                from: 22,
-                to: 23
-            })
-        ),
-        "{found:?}"
+        matches!(found, Err(SourceError::Unexpected { token: k, from: f, to: t }) if k == 7 && f == 22 && t == 23),
+        "no item behind the mark"
     );
     Ok(())
 }
