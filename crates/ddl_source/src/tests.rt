@@ -3,6 +3,7 @@ use ddl_lex::{layout, lex};
 use ddl_show::show;
 use ddl_syntax::{SyntaxError, parse};
 use ddl_token::{Tok, Token, Word};
+use ddl_tree::Module;
 use std::alloc::Global;
 use std::process::Abort;
 use std::test::Fail;
@@ -149,13 +150,24 @@ fn nested(alloc: Global, pairs: usize) -> Result<Vec<u8>, Fail> {
     Ok(text)
 }
 
+/// What `def Main = UInt8` with so many pairs of parentheses is.
+fn nested_tree(
+    rt: &impl Abort,
+    alloc: Global,
+    pairs: usize,
+) -> Result<Result<Module, SourceError>, Fail> {
+    let text = nested(alloc, pairs)?;
+    assert!(rt; text.len() <= 1 << 22);
+    Ok(tree_of(alloc, 0, &text))
+}
+
 /// 199 pairs of parentheses are read; with more, the name inside is one form too many, or a parenthesis is.
 #[test]
 fn depths(rt: HostRuntime) -> Result<(), Fail> {
     let alloc = rt.alloc();
-    assert!(rt; tree_of(alloc, 0, &nested(alloc, 199)?).is_ok());
+    assert!(rt; nested_tree(&rt, alloc, 199)?.is_ok());
     for pairs in [200, 201, 10_000] {
-        let found = tree_of(alloc, 0, &nested(alloc, pairs)?);
+        let found = nested_tree(&rt, alloc, pairs)?;
         assert!(rt;
             matches!(found, Err(SourceError::TooNested { token: 202, .. })),
             "{pairs}"
