@@ -1,0 +1,5 @@
+pub mod Cycles
+pub mod Files
+pub mod Loading
+pub mod Queue
+pub mod Reading
