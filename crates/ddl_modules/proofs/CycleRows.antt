@@ -1,5 +1,5 @@
 -- Worked rows of cycles. Unit 0 is the prelude, which imports nothing.
-use Rattle.std.proofs.Common.{◌≡◌, ℕ, zero, suc, ◌+◌, ◌<◌, ◌≤◌, List, [], ◌∷◌, length, Contains, refl, sym, subst, ◌⊎◌, inl, inr, arith}
+use Rattle.std.proofs.Common.{◌≡◌, ℕ, zero, suc, ◌<◌, ◌≤◌, List, [], ◌∷◌, length, Contains, sym, ◌⊎◌, inl, inr, arith}
 use Rattle.ddl_modules.specs.Cycles.{HaveNoCycle, IsCycle, IsFirstCycle, IsImport, IsNotAfter, IsWalk}
 use Rattle.ddl_modules.proofs.RowLemmas.{Contains-first, Contains-rest, first_or_rest}
 

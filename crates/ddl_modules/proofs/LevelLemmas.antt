@@ -1,9 +1,9 @@
 -- Which flags are up on a level.
 use Rattle.std.proofs.Common.{◌≡◌, ◌≢◌, ℕ, zero, suc, ◌+◌, ◌<◌, ◌≤◌, List, [], ◌∷◌, ◌++◌, length, get_or, Contains, Bool, true, false, refl, ap, sym, ◌∙◌, ◌⊎◌, inl, inr, arith, append_assoc, drop}
-use Rattle.std.specs.Prelude.{◌||◌, map}
+use Rattle.std.specs.Prelude.{◌||◌}
 use Rattle.std.proofs.lemmas.Bool.{cases_lt, false≢true, or_cases, or_left, or_right}
 use Rattle.std.proofs.lemmas.List.{drop_more, get_or-map, get_or_past, length-map}
-use Rattle.ddl_modules.specs.Cycles.{IsImport, IsWalk}
+use Rattle.ddl_modules.specs.Cycles.{IsWalk}
 use Rattle.ddl_modules.specs.Levels.{any_up, down, flag, has, joined, level, lifted, lists_of, IsLeastUp}
 use Rattle.ddl_modules.specs.declared.rows.Row.{Row}
 use Rattle.ddl_modules.proofs.RowLemmas.{Contains-first, Contains-rest, Contains_from_has, first_or_rest, has_from_Contains}

@@ -11,7 +11,7 @@ use Rattle.ddl_base.specs.declared.span.Span.{Span}
 use Rattle.ddl_outside.specs.Files.{FilesState}
 use Rattle.ddl_tree.specs.declared.module.Import.{Import}
 use Rattle.ddl_tree.specs.declared.module.SourceUnit.{SourceUnit}
-use Rattle.ddl_modules.specs.Files.{module_file, module_name}
+use Rattle.ddl_modules.specs.Files.{module_name}
 use Rattle.ddl_modules.specs.Cycles.{import_span, imports_of, second_of, unit_name, IsCycle, IsFirstCycle, IsImport, IsToldCycle}
 use Rattle.ddl_modules.specs.Levels.{has}
 use Rattle.ddl_modules.specs.Loaded.{AreNotLoaded, HasPlaces, IsCycleOf}

@@ -1,8 +1,8 @@
 -- Facts of the queue of names.
-use Rattle.std.proofs.Common.{◌≡◌, ℕ, ◌+◌, ◌<◌, ◌≤◌, List, [], ◌∷◌, ◌++◌, length, drop, map, get_or, suc, refl, ap, sym, ◌∙◌, Bool, true, false, arith, zero-add, length-append, append_assoc}
+use Rattle.std.proofs.Common.{◌≡◌, ℕ, ◌+◌, ◌<◌, ◌≤◌, List, [], ◌∷◌, ◌++◌, length, drop, get_or, suc, refl, ap, sym, ◌∙◌, Bool, true, false, arith, length-append, append_assoc}
 use Rattle.std.specs.Prelude.{Some, None, Option, nat_lt, if◌then◌else◌}
 use Rattle.std.specs.Str.{bytes_eq}
-use Rattle.std.proofs.lemmas.List.{drop-map, drop_more}
+use Rattle.std.proofs.lemmas.List.{drop_more}
 use Rattle.ddl_base.specs.declared.span.Span.{Span}
 use Rattle.ddl_tree.specs.declared.module.Import.{Import}
 use Rattle.ddl_tree.specs.declared.module.SourceUnit.{SourceUnit}

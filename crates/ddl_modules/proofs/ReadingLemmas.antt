@@ -1,21 +1,18 @@
 -- Facts of the reading of modules.
-use Rattle.std.proofs.Common.{◌≡◌, ℕ, ◌+◌, ◌<◌, ◌≤◌, ◌^◌, List, [], ◌∷◌, ◌++◌, length, refl, ap, sym, subst, ◌∙◌, arith, inl, inr, ◌⊎◌}
-use Rattle.std.specs.Prelude.{Some, None, Ok, Err, Result, IfOk, IfErr, slice_get, false}
+use Rattle.std.proofs.Common.{◌≡◌, ℕ, List, [], ◌∷◌, ◌++◌, length, ap, sym, ◌∙◌}
+use Rattle.std.specs.Prelude.{Some, Ok, Err, Result, IfOk, IfErr, false}
 use Rattle.std.specs.Str.{bytes_eq}
 use Rattle.ddl_outside.specs.Files.{FilesState, Later, TouchesOnly, IsFile}
-use Rattle.ddl_outside.proofs.FilesLemmas.{Later-trans, IsFile-later, IsAbsent-earlier, IsFailed-earlier}
+use Rattle.ddl_outside.proofs.FilesLemmas.{IsFile-later}
 use Rattle.ddl_source.specs.Source.{HasTree}
 use Rattle.ddl_tree.specs.declared.module.SourceUnit.{SourceUnit}
 use Rattle.ddl_tree.specs.ViewModule.{module_view}
-use Rattle.ddl_modules.specs.Files.{module_file, module_name}
-use Rattle.ddl_modules.specs.Queue.{prelude_name, queue, known, with_names, imported, IsNext}
-use Rattle.ddl_modules.specs.Reading.{AreOthers, HasTreeIn, IsFull, IsLastTurn, IsNoText, IsNoTree, IsTooLarge, IsTooMany, IsTurn, IsWithin, Read, TouchesOnlyThese}
+use Rattle.ddl_modules.specs.Files.{module_file}
+use Rattle.ddl_modules.specs.Reading.{AreOthers, HasTreeIn, IsNoText, IsNoTree, IsTurn, IsWithin, Read, TouchesOnlyThese}
 use Rattle.ddl_modules.specs.Reading.Read.{prelude, more}
 use Rattle.ddl_modules.specs.declared.error.LoadError.{LoadError}
 use Rattle.ddl_modules.specs.declared.error.LoadError.TheVariants as refused
-use Rattle.ddl_modules.specs.declared.reading.Loading.{Loading}
 use Rattle.ddl_modules.specs.declared.reading.Parsed.{Parsed}
-use Rattle.ddl_modules.proofs.QueueLemmas.{known-more}
 
 -- a text that was read and gives no tree
 pub IsNoTree-text : (old new : FilesState) (file name text : List ℕ) (before : ℕ) (e : LoadError) → IsFile new file text → IsNoText name text before e → IsNoTree old new file name before e

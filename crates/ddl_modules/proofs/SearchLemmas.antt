@@ -1,5 +1,5 @@
 -- What the search for a cycle of one unit holds from level to level.
-use Rattle.std.proofs.Common.{◌≡◌, ◌≢◌, ℕ, zero, suc, ◌+◌, ◌<◌, ◌≤◌, List, [], ◌∷◌, ◌++◌, length, get_or, Bool, true, false, refl, ap, sym, subst, ◌∙◌, ◌⊎◌, inl, inr, add-one, arith, vec_len}
+use Rattle.std.proofs.Common.{◌≡◌, ◌≢◌, ℕ, zero, suc, ◌<◌, ◌≤◌, List, [], ◌∷◌, ◌++◌, length, get_or, Bool, true, false, refl, ap, sym, ◌∙◌, ◌⊎◌, inl, inr, add-one, arith, vec_len}
 use Rattle.std.specs.Prelude.{map, Some, None}
 use Rattle.std.proofs.lemmas.Bool.{both_ways, cases_lt}
 use Rattle.std.proofs.lemmas.List.{get_or_past, length-map}
@@ -9,7 +9,7 @@ use Rattle.ddl_modules.specs.Cycles.{imports_of, HaveNoCycle, IsCycle, IsFirstCy
 use Rattle.ddl_modules.specs.Levels.{down, flag, has, joined, level, levels, lifted, lists_of, AreRows, IsClimb, IsShortestCycle}
 use Rattle.ddl_modules.specs.declared.levels.Levels.{Levels}
 use Rattle.ddl_modules.specs.declared.rows.Row.{Row}
-use Rattle.ddl_modules.proofs.LevelLemmas.{any_up_from, down-joined, flag-first, flag-lifted, joined_cases, joined_left, joined_right, length-joined, level_from_walk, lifted-joined, row, walk_from_level}
+use Rattle.ddl_modules.proofs.LevelLemmas.{any_up_from, down-joined, flag-first, flag-lifted, joined_cases, joined_left, joined_right, length-joined, level_from_walk, lifted-joined, row}
 use Rattle.ddl_modules.proofs.RowLemmas.{has_from_Contains, walk_from, walk_to}
 
 import_within : (lists : List (List ℕ)) (a b : ℕ) → IsImport lists a b → a < length lists

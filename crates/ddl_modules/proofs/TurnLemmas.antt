@@ -1,5 +1,5 @@
 -- Facts of one turn of the reading.
-use Rattle.std.proofs.Common.{◌≡◌, ℕ, ◌<◌, List, [], ◌∷◌, ◌++◌, length, get_or, refl, ap, sym, subst, ◌∙◌, ◌⊎◌, vec_len, ◌+◌}
+use Rattle.std.proofs.Common.{◌≡◌, ℕ, ◌<◌, List, [], ◌∷◌, length, get_or, refl, ap, sym, subst, ◌∙◌, ◌⊎◌, vec_len, ◌+◌}
 use Rattle.std.specs.Prelude.{Some, Ok, Err, Result, IfErr, slice_get}
 use Rattle.std.proofs.lemmas.Option.{slice_get_read}
 use Rattle.ddl_outside.specs.Files.{FilesState, TouchesOnly}

@@ -1,9 +1,9 @@
 -- The least walk of a length, unit by unit.
-use Rattle.std.proofs.Common.{◌≡◌, ℕ, zero, suc, ◌+◌, ◌<◌, ◌≤◌, List, [], ◌∷◌, ◌++◌, length, get_or, Contains, Bool, true, refl, ap, sym, subst, ◌∙◌, ◌⊎◌, inl, inr, arith, length-append, append_assoc}
+use Rattle.std.proofs.Common.{◌≡◌, ℕ, zero, suc, ◌+◌, ◌<◌, ◌≤◌, List, [], ◌∷◌, ◌++◌, length, Bool, true, refl, ap, sym, subst, ◌∙◌, ◌⊎◌, inl, inr, arith, length-append, append_assoc}
 use Rattle.std.specs.Prelude.{map}
 use Rattle.std.proofs.lemmas.Bool.{cases_eq, cases_order}
 use Rattle.std.proofs.lemmas.List.{append-nil, same_from_push}
-use Rattle.ddl_modules.specs.Cycles.{IsImport, IsNotAfter, IsWalk}
+use Rattle.ddl_modules.specs.Cycles.{IsNotAfter, IsWalk}
 use Rattle.ddl_modules.specs.Levels.{any_up, flag, level, levels, lists_of, IsLeastUp, IsLeastWalk}
 use Rattle.ddl_modules.specs.declared.levels.Level.{Level}
 use Rattle.ddl_modules.specs.declared.rows.Row.{Row}

@@ -1,5 +1,5 @@
 -- The queue of names of modules: the prelude's, the root's, and then each where its first import is met.
-use Rattle.std.specs.Prelude.{ℕ, ◌+◌, ◌<◌, List, [], ◌∷◌, length, map, slice_get, Option, Some, None, nat_lt, if◌then◌else◌, codes, ◌≡◌}
+use Rattle.std.specs.Prelude.{ℕ, ◌+◌, List, [], ◌∷◌, length, map, slice_get, Option, Some, None, nat_lt, if◌then◌else◌, codes, ◌≡◌}
 use Rattle.std.specs.Str.{bytes_eq}
 use Rattle.ddl_base.specs.declared.span.Span.{Span}
 use Rattle.ddl_tree.specs.declared.module.Import.{Import}

@@ -1,5 +1,5 @@
-use Rattle.std.proofs.Common.{◌≡◌, ◌≤◌, ◌∙◌, sym, subst, ap, arith, false, length, List, Bool, vec_len}
-use Rattle.std.specs.Prelude.{Option, Some, None}
+use Rattle.std.proofs.Common.{◌≡◌, ◌∙◌, sym, subst, arith, false}
+use Rattle.std.specs.Prelude.{Option}
 use Rattle.ddl_modules.specs.Levels.{flag, IsClimb}
 use Rattle.ddl_modules.specs.declared.levels.Levels.{Levels}
 use Rattle.ddl_modules.proofs.SearchLemmas.{climbed, fewer_down, first_levels, no_cycle, none_shorter}

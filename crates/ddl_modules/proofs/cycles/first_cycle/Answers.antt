@@ -1,4 +1,4 @@
-use Rattle.std.proofs.Common.{◌≡◌, ◌≤◌, ◌<◌, List, arith, length, subst}
+use Rattle.std.proofs.Common.{◌≡◌, List, arith, length, subst}
 use Rattle.ddl_modules.specs.Levels.{lists_of, IsShortestCycle}
 use Rattle.ddl_modules.specs.declared.rows.Row.{Row}
 use Rattle.ddl_modules.proofs.SearchLemmas.{first_found, none_found, rows_long}

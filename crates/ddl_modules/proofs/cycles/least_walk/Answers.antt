@@ -1,4 +1,4 @@
-use Rattle.std.proofs.Common.{◌≡◌, ◌+◌, ◌<◌, ◌≤◌, ◌∙◌, ◌∷◌, ◌++◌, [], ap, sym, subst, suc, arith, length, List, ℕ, Bool, true, vec_len}
+use Rattle.std.proofs.Common.{◌≡◌, ◌<◌, ◌∙◌, ap, sym, subst, suc, arith, length, List, ℕ, Bool, true, vec_len}
 use Rattle.std.specs.Prelude.{map}
 use Rattle.std.proofs.lemmas.Option.{MatchOption-at_none}
 use Rattle.ddl_modules.specs.Levels.{any_up, IsLeastUp}

@@ -1,4 +1,4 @@
-use Rattle.std.proofs.Common.{◌≡◌, ◌∙◌, ◌+◌, ◌++◌, ◌∷◌, [], ap, sym, drop, Bool, List, ℕ}
+use Rattle.std.proofs.Common.{◌∙◌, ◌+◌, ◌++◌, ◌∷◌, [], ap, sym, drop, Bool, List, ℕ}
 use Rattle.ddl_modules.specs.Levels.{joined}
 use Rattle.ddl_modules.proofs.LevelLemmas.{joined_step}
 use Rattle.ddl_modules.proofs.levels.joined.Goals as goal

@@ -1,7 +1,6 @@
 use Rattle.std.proofs.Common.{◌≡◌, ◌+◌, ◌<◌, ◌≤◌, ◌∷◌, drop, length, ap, arith}
-use Rattle.ddl_tree.specs.declared.module.Import.{Import}
 use Rattle.ddl_modules.specs.Queue.{beyond, imported, places, with_name, with_names}
-use Rattle.ddl_modules.proofs.QueueLemmas.{imports_from, places_step, names_step, beyond_step, beyond_here}
+use Rattle.ddl_modules.proofs.QueueLemmas.{imports_from, places_step, names_step, beyond_step}
 use Rattle.ddl_modules.proofs.queue.add_imports.Goals as goal
 
 pub loop-import-preserved : goal.loop-import-preserved

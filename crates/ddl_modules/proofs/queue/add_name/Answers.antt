@@ -1,5 +1,5 @@
-use Rattle.std.proofs.Common.{◌≡◌, ◌≤◌, ◌<◌, length, vec_len, sym, ap, ◌∙◌, arith, length-append, [], ◌∷◌, ◌++◌}
-use Rattle.ddl_modules.specs.Queue.{place, with_name}
+use Rattle.std.proofs.Common.{◌≡◌, ◌≤◌, ◌<◌, length, vec_len, sym, ap, ◌∙◌, arith, [], ◌∷◌, ◌++◌}
+use Rattle.ddl_modules.specs.Queue.{place}
 use Rattle.ddl_modules.proofs.QueueLemmas.{full_at, with_name-new, with_name-old}
 use Rattle.ddl_modules.proofs.queue.add_name.Goals as goal
 

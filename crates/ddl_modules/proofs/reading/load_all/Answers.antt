@@ -1,4 +1,4 @@
-use Rattle.std.proofs.Common.{◌≡◌, ◌<◌, ◌≤◌, ◌∙◌, inl, refl, arith, vec_len}
+use Rattle.std.proofs.Common.{◌<◌, ◌≤◌, inl, refl, arith, vec_len}
 use Rattle.std.proofs.lemmas.Result.{err_from_is_err_and}
 use Rattle.ddl_modules.proofs.ProgressLemmas.{progress-begun, progress-more, progress-smaller, progress-done, progress-failed}
 use Rattle.ddl_modules.proofs.reading.load_all.Goals as goal

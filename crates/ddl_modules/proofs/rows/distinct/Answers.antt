@@ -1,4 +1,4 @@
-use Rattle.std.proofs.Common.{◌≡◌, ◌<◌, ◌∙◌, ◌+◌, ◌++◌, ◌∷◌, [], ap, sym, Bool, List, ℕ, length, take, get_or}
+use Rattle.std.proofs.Common.{◌<◌, ◌∙◌, ap, sym, Bool, List, ℕ, length, take, get_or}
 use Rattle.std.specs.Prelude.{◌||◌, ◌==◌}
 use Rattle.std.proofs.lemmas.List.{take_more}
 use Rattle.ddl_modules.specs.Levels.{has}
