@@ -12,3 +12,6 @@ mod rows;
 
 pub use error::LoadError;
 pub use loader::load;
+
+#[cfg(test)]
+mod tests;
