@@ -1,0 +1,12 @@
+pub mod BeginLemmas
+pub mod CycleRows
+pub mod LevelLemmas
+pub mod LoadLemmas
+pub mod ProgressLemmas
+pub mod QueueLemmas
+pub mod ReadingLemmas
+pub mod RowLemmas
+pub mod SearchLemmas
+pub mod TextLemmas
+pub mod TurnLemmas
+pub mod WalkLemmas
