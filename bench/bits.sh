@@ -1,7 +1,8 @@
 #!/bin/sh
 # How the time of check grows where two constructors with inner layouts have no number in common, but no given bits that
 # differ. Free bits before the inner layouts are cut off from them, so that the time grows with a power of their number.
-# Free bits inside of inner layouts that have several constructors are all tried, so that each one doubles the time.
+# Free bits inside of inner layouts that have several constructors stand in each constructor, and the layouts are compared
+# constructor by constructor. Where the choice stands a layout deeper its bits are tried, so that each one more than doubles it.
 . "$(dirname -- "$0")/program.sh"
 : >"$folder/empty"
 idle=$(milliseconds "$program" bits-before "$folder/empty" 1)
@@ -20,4 +21,5 @@ grows() {
     echo "$line"
 }
 grows bits-before 31 62 124
-grows bits-inside 12 14 16 18
+grows bits-inside 31 62 124
+grows bits-deeper 8 10 12 14

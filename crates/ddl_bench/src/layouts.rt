@@ -59,6 +59,22 @@ fn holding(alloc: Global, layout: Layout) -> Result<LayoutPart, NoMemory>
     Ok(LayoutPart::Inner { name: None, layout })
 }
 
+/// A part that holds a layout, which is to be accepted and to have a bit; else an error.
+fn inner(alloc: Global, layout: Layout) -> Result<LayoutPart, NoMemory>
+    requires { HasAcceptedParts (layout_view layout) }
+    ensures { IfOk result (λ p. PartAccepted (part_view p)) }
+{
+    match check(layout) {
+        Err(_error) => Err(NoMemory),
+        Ok(checked) => {
+            if checked.width == 0 {
+                return Err(NoMemory);
+            }
+            holding(alloc, checked.layout)
+        }
+    }
+}
+
 /// A part of a layout of two constructors: free bits, and behind them two bits that are one of two
 /// numbers.
 fn choice(alloc: Global, free: u32, first: u128, second: u128) -> Result<LayoutPart, NoMemory>
@@ -70,15 +86,20 @@ fn choice(alloc: Global, free: u32, first: u128, second: u128) -> Result<LayoutP
         pair(alloc, any(free), given(first))?,
         pair(alloc, any(free), given(second))?,
     )?;
-    match check(layout) {
-        Err(_error) => Err(NoMemory),
-        Ok(checked) => {
-            if checked.width == 0 {
-                return Err(NoMemory);
-            }
-            holding(alloc, checked.layout)
-        }
-    }
+    inner(alloc, layout)
+}
+
+/// A part of a layout of two constructors, each of which holds such a part and two bits.
+fn deeper(alloc: Global, free: u32, first: u128, second: u128) -> Result<LayoutPart, NoMemory>
+    requires { 1 ≤ free }
+    ensures { IfOk result (λ p. PartAccepted (part_view p)) }
+{
+    let layout = either(
+        alloc,
+        pair(alloc, choice(alloc, free, first, second)?, given(0))?,
+        pair(alloc, choice(alloc, free, first, second)?, given(1))?,
+    )?;
+    inner(alloc, layout)
 }
 
 /// Checks two constructors that no number fits both, since the bits at their end differ: free bits,
@@ -92,8 +113,26 @@ pub fn width_of_two(alloc: Global, before: u32, inside: u32) -> Result<u32, NoMe
         pair(alloc, any(before), choice(alloc, inside, 0, 1)?)?,
         pair(alloc, any(before), choice(alloc, inside, 2, 3)?)?,
     )?;
+    Ok(width(layout))
+}
+
+/// The same, where the choice stands a layout deeper.
+pub fn width_of_two_deeper(alloc: Global, inside: u32) -> Result<u32, NoMemory>
+    requires { 1 ≤ inside }
+{
+    let layout = either(
+        alloc,
+        pair(alloc, any(1), deeper(alloc, inside, 0, 1)?)?,
+        pair(alloc, any(1), deeper(alloc, inside, 2, 3)?)?,
+    )?;
+    Ok(width(layout))
+}
+
+fn width(layout: Layout) -> u32
+    requires { HasAcceptedParts (layout_view layout) }
+{
     match check(layout) {
-        Err(_error) => Ok(0),
-        Ok(checked) => Ok(checked.width),
+        Err(_error) => 0,
+        Ok(checked) => checked.width,
     }
 }

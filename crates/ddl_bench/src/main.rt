@@ -37,6 +37,17 @@ fn checked(alloc: Global, before: u32, inside: u32) -> io::Result<u32> {
     }
 }
 
+/// The width of a layout with so many free bits inside of choices that stand a layout deeper.
+fn checked_deeper(alloc: Global, inside: u32) -> io::Result<u32> {
+    if inside == 0 {
+        return Err(Error::from(ErrorKind::InvalidInput));
+    }
+    match layouts::width_of_two_deeper(alloc, inside) {
+        Ok(width) => Ok(width),
+        Err(_) => Err(Error::from(ErrorKind::OutOfMemory)),
+    }
+}
+
 fn main(rt: HostRuntime) -> io::Result<()> {
     let alloc = rt.alloc();
     let mut words = env::args(&rt)?.skip(1);
@@ -50,6 +61,7 @@ fn main(rt: HostRuntime) -> io::Result<()> {
     match part.as_str() {
         "bits-before" => println!(rt; "{}", checked(alloc, number, 1)?),
         "bits-inside" => println!(rt; "{}", checked(alloc, 1, number)?),
+        "bits-deeper" => println!(rt; "{}", checked_deeper(alloc, number)?),
         "class" => println!(rt; "{}", classes::letters_before_a_stop(&text, number)),
         "lex" => println!(rt; "{}", tokens::count(alloc, &text)?),
         "chain" => println!(rt;

@@ -8,7 +8,7 @@ use Rattle.ddl_bits.specs.Overlaps.{parts_both}
 use Rattle.ddl_bits.specs.Tree.{Part, fixed, any, inner, Parts, no_parts, part, parts_width, part_fits, parts_fit}
 use Rattle.ddl_bits.proofs.Searching.{false_unless, first_true, second_true}
 
-part_told : (p : Part) (place n b : ℕ) → part_bit p place ≡ Some b → part_fits p n ≡ true → n / 2 ^ place % 2 ≡ b
+pub part_told : (p : Part) (place n b : ℕ) → part_bit p place ≡ Some b → part_fits p n ≡ true → n / 2 ^ place % 2 ≡ b
 part_told (fixed bits width) place n b given fits =
     let same : n ≡ bits = eqb-true n bits (first_true (eqb n bits) (ltb n (2 ^ width)) fits) in
     let bit : bits / 2 ^ place % 2 ≡ b = cc in
@@ -32,7 +32,7 @@ parts_told (part p ps) place n b given fits =
     (λ e. part_told p (place - w) q b e (first_true (part_fits p q) (parts_fit ps r) fits))
     given
 
-differ_none : (u v : Option ℕ) (m : ℕ) → ((b : ℕ) → u ≡ Some b → m ≡ b) → ((b : ℕ) → v ≡ Some b → m ≡ b) → differ u v ≡ true → ⊥
+pub differ_none : (u v : Option ℕ) (m : ℕ) → ((b : ℕ) → u ≡ Some b → m ≡ b) → ((b : ℕ) → v ≡ Some b → m ≡ b) → differ u v ≡ true → ⊥
 differ_none (Some a) (Some b) m f g e =
     let same : eqb a b ≡ true = eq-eqb a b (sym (f a refl) ∙ g b refl) in
     let no : not true ≡ true = ap not (sym same) ∙ e in

@@ -6,6 +6,7 @@ pub mod GivenBits
 pub mod Layers
 pub mod Mixing
 pub mod Pairs
+pub mod Reading
 pub mod Searching
 pub mod Sized
 pub mod Steps

@@ -2,7 +2,7 @@
 use Rattle.std.proofs.Common.{◌≡◌, ℕ, ◌+◌, ◌-◌, ◌*◌, ◌/◌, ◌%◌, ◌^◌, ◌<◌, ◌≤◌, Bool, true, false, ◌&&◌, ◌||◌, eqb, ltb, if◌then◌else◌, refl, ◌∙◌, sym, ap, subst, inl, inr, arith}
 use Rattle.std.proofs.Math.Nat.{mod-le, div-eq_of_lt}
 use Rattle.std.proofs.Math.Pow.{mod-mod-pow}
-use Rattle.std.proofs.lemmas.Bool.{cases_lt, eqb-true, eq-eqb, ltb-true, ltb-false, lt-ltb}
+use Rattle.std.proofs.lemmas.Bool.{cases_lt, eqb-true, ltb-true, ltb-false, lt-ltb}
 use Rattle.std.proofs.lemmas.Nat.{pow_pos, pow_below, shr-shr, shr_split, mod_below, mod_low, mod-pow-add, shr_high}
 use Rattle.ddl_bits.specs.Cuts.{part_cut, parts_cut, cons_cut}
 use Rattle.ddl_bits.specs.Overlaps.{parts_both, HasNone}

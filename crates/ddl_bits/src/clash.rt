@@ -26,7 +26,7 @@ pub(crate) fn are_told_apart(a: &[LayoutPart], b: &[LayoutPart], width: u32) -> 
 }
 
 /// Whether both bits are given, and they differ.
-fn are_different(a: Option<u128>, b: Option<u128>) -> bool
+pub(crate) fn are_different(a: Option<u128>, b: Option<u128>) -> bool
     ensures { result ≡ differ a b }
 {
     match a {
@@ -40,7 +40,7 @@ fn are_different(a: Option<u128>, b: Option<u128>) -> bool
 
 /// The bit at this place, counted from the lowest, where the parts give it.
 #[tactic(auto, using(crate::proofs::Layers::layers))]
-fn given_bit(parts: &[LayoutPart], width: u32, place: u32) -> Option<u128>
+pub(crate) fn given_bit(parts: &[LayoutPart], width: u32, place: u32) -> Option<u128>
     requires sized { PartsSized (parts_view parts.now) }
     requires has_width { parts_width (parts_view parts.now) ≡ width }
     requires at_most_128 { width ≤ 128 }
@@ -59,7 +59,7 @@ fn given_bit(parts: &[LayoutPart], width: u32, place: u32) -> Option<u128>
 
 /// The same of one part.
 #[tactic(auto, using(crate::proofs::Layers::layers))]
-fn part_bit_at(part: &LayoutPart, place: u32) -> Option<u128>
+pub(crate) fn part_bit_at(part: &LayoutPart, place: u32) -> Option<u128>
     requires { place < 128 }
     ensures { result ≡ part_bit (part_view part.now) place }
 {

@@ -1,14 +1,16 @@
 ghost use Rattle.ddl_bits.specs.Accepted.{PartsAccepted};
+ghost use Rattle.ddl_bits.specs.Cuts.{parts_cut};
 ghost use Rattle.ddl_bits.specs.Overlaps.{parts_both, HasNone, IsLeastIfAny, IsSearched};
-ghost use Rattle.ddl_bits.specs.Tree.{parts_fit, parts_width};
+ghost use Rattle.ddl_bits.specs.Tree.{parts_fit, parts_width, PartsSized};
 ghost use Rattle.ddl_bits.specs.View.{parts_view};
-ghost use Rattle.std.specs.Prelude.{◌≡◌, ℕ, ◌+◌, ◌*◌, ◌≤◌, ◌^◌};
+ghost use Rattle.std.specs.Prelude.{◌≡◌, ℕ, ◌+◌, ◌*◌, ◌≤◌, ◌^◌, ◌&&◌};
 
 use crate::below::parts_below;
 use crate::clash::are_told_apart;
 use crate::cuts::parts_cut;
 use crate::fitting::parts_fit;
 use crate::layout::LayoutPart;
+use crate::meeting::may_share;
 
 /// What a search for the least number in a range came to.
 #[derive(Clone, Copy)]
@@ -59,6 +61,10 @@ fn search_range(a: &[LayoutPart], b: &[LayoutPart], width: u32, from: u128, bits
     if bits == 0 {
         return Search::Number(from);
     }
+    let is_cut = both_cut(a, b, width, bits);
+    if !is_cut && !may_share(a, b, width, from, bits) {
+        return Search::NoneHere;
+    }
     let half = bits - 1;
     match search_range(a, b, width, from, half) {
         Search::Number(number) => Search::Number(number),
@@ -66,15 +72,25 @@ fn search_range(a: &[LayoutPart], b: &[LayoutPart], width: u32, from: u128, bits
         Search::NoneHere => match search_range(a, b, width, from + (1 << half), half) {
             Search::Number(number) => Search::Number(number),
             Search::NoneAtAll => Search::NoneAtAll,
-            Search::NoneHere => {
-                if parts_cut(a, width, bits) && parts_cut(b, width, bits) {
-                    Search::NoneAtAll
-                } else {
-                    Search::NoneHere
-                }
-            }
+            Search::NoneHere => if is_cut {
+                Search::NoneAtAll
+            } else {
+                Search::NoneHere
+            },
         },
     }
+}
+
+/// Whether both lists of parts are cut at the lower end of such a range.
+fn both_cut(a: &[LayoutPart], b: &[LayoutPart], width: u32, bits: u32) -> bool
+    requires a_sized { PartsSized (parts_view a.now) }
+    requires b_sized { PartsSized (parts_view b.now) }
+    requires a_width { parts_width (parts_view a.now) ≡ width }
+    requires b_width { parts_width (parts_view b.now) ≡ width }
+    requires at_most_128 { width ≤ 128 }
+    ensures { result ≡ (parts_cut (parts_view a.now) bits && parts_cut (parts_view b.now) bits) }
+{
+    parts_cut(a, width, bits) && parts_cut(b, width, bits)
 }
 
 /// Whether parts have no number among those that have all but their lowest `bits` as `from` has them.

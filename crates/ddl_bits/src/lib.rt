@@ -11,12 +11,14 @@ mod cuts;
 mod error;
 mod fitting;
 mod layout;
+mod meeting;
 mod one_width;
 mod overlap;
 mod places;
 #[cfg(test)]
 mod tests;
 mod verdict;
+mod ways;
 mod widths;
 
 pub use checked::{Checked, fits};

@@ -100,3 +100,48 @@ fn inner_layouts_share_a_number_or_none(rt: HostRuntime) -> Result<(), NoMemory>
     }
     Ok(())
 }
+
+// { _ : uint 60, 0bXX } or { _ : uint 60, 0bYY }
+fn wide(alloc: Global, first: u128, second: u128) -> Result<LayoutPart, NoMemory>
+    ensures { IfOk result (λ p. PartAccepted (part_view p)) }
+{
+    inner(
+        alloc,
+        either(
+            alloc,
+            two(alloc, any(60), given(first, 2))?,
+            two(alloc, any(60), given(second, 2))?,
+        )?,
+    )
+}
+
+#[test]
+fn wide_inner_layouts_are_told_apart_by_their_lowest_bits(rt: HostRuntime) -> Result<(), NoMemory> {
+    let alloc = rt.alloc();
+    let apart = either(
+        alloc,
+        two(alloc, any(1), wide(alloc, 0, 1)?)?,
+        two(alloc, any(1), wide(alloc, 2, 3)?)?,
+    )?;
+    assert_eq!(rt; error(apart), None);
+    let shared = either(
+        alloc,
+        two(alloc, any(1), wide(alloc, 1, 2)?)?,
+        two(alloc, any(1), wide(alloc, 2, 3)?)?,
+    )?;
+    assert_eq!(rt; error(shared), Some(BitError::Overlap(0, 1, 2)));
+    // the one ends a bit before the other: bit 1 is 0 in the one and 1 in the other
+    let shifted_apart = either(
+        alloc,
+        two(alloc, any(1), wide(alloc, 0, 1)?)?,
+        two(alloc, wide(alloc, 1, 3)?, any(1))?,
+    )?;
+    assert_eq!(rt; error(shifted_apart), None);
+    let shifted = either(
+        alloc,
+        two(alloc, any(1), wide(alloc, 1, 2)?)?,
+        two(alloc, wide(alloc, 1, 2)?, any(1))?,
+    )?;
+    assert_eq!(rt; error(shifted), Some(BitError::Overlap(0, 1, 2)));
+    Ok(())
+}

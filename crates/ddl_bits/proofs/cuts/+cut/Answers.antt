@@ -1,4 +1,4 @@
-use Rattle.std.proofs.Common.{◌≡◌, ap, subst, sym, ◌∙◌, arith, rules, tests}
+use Rattle.std.proofs.Common.{ap, subst, sym, ◌∙◌, arith, rules, tests}
 use Rattle.std.proofs.lemmas.Grind.{common_steps}
 use Rattle.std.proofs.lemmas.List.{get_or_read}
 use Rattle.ddl_bits.specs.declared.layout.Layout.{the_lemmas}
