@@ -12,6 +12,7 @@ mod rows;
 
 pub use error::LoadError;
 pub use loader::load;
+pub use names::module_name;
 
 #[cfg(test)]
 mod tests;

@@ -8,7 +8,7 @@ use std::alloc::Global;
 use std::str;
 
 /// The name of a root's module: what stands after the last slash.
-pub(crate) fn module_name(root: &[u8]) -> &[u8]
+pub fn module_name(root: &[u8]) -> &[u8]
     ensures name { result.now ≡ module_name root.now }
     ensures within { length result.now ≤ length root.now }
 {
