@@ -1,4 +1,5 @@
 pub mod Groups
 pub mod Labels
 pub mod Laws
+pub mod Placing
 pub mod Reach

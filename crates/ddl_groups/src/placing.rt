@@ -1,0 +1,1 @@
+//! The order in which groups are placed.
