@@ -1,7 +1,9 @@
 pub mod GroupRows
 pub mod LabelLemmas
 pub mod OneGrouping
+pub mod Placed
 pub mod Reached
 pub mod ReadyLemmas
 pub mod Rising
 pub mod Settled
+pub mod Started

@@ -18,12 +18,15 @@ pub member_at : (xs : List ℕ) (k d : ℕ) → k < length xs → Contains xs (g
 member_at xs k d l = (k, l, get_or_default xs k (get_or xs k d) d l)
 
 -- a place is the one that was written, or is as before
-pub put_at : (xs : List ℕ) (i v : ℕ) → i < length xs → (x : ℕ) → ((x ≡ i) × (slice_index (set xs i v) x ≡ v)) ⊎ (slice_index (set xs i v) x ≡ slice_index xs x)
-put_at xs i v l x = by (cases_eq x i)
+pub written : {X : Type 0} (xs : List X) (i : ℕ) (v d : X) → i < length xs → (x : ℕ) → ((x ≡ i) × (get_or (set xs i v) x d ≡ v)) ⊎ ((x ≢ i) × (get_or (set xs i v) x d ≡ get_or xs x d))
+written {X} xs i v d l x = by (cases_eq x i)
   where
-    by : (x ≡ i) ⊎ (x ≢ i) → ((x ≡ i) × (slice_index (set xs i v) x ≡ v)) ⊎ (slice_index (set xs i v) x ≡ slice_index xs x)
-    by (inl e) = let P : ℕ → Type 0 = λ y. slice_index (set xs i v) y ≡ v in inl (e, subst P (sym e) (get_or-set_same xs i v 0 l))
-    by (inr ne) = inr (get_or-set_other xs i x v 0 ne)
+    by : (x ≡ i) ⊎ (x ≢ i) → ((x ≡ i) × (get_or (set xs i v) x d ≡ v)) ⊎ ((x ≢ i) × (get_or (set xs i v) x d ≡ get_or xs x d))
+    by (inl e) = let P : ℕ → Type 0 = λ y. get_or (set xs i v) y d ≡ v in inl (e, subst P (sym e) (get_or-set_same xs i v d l))
+    by (inr ne) = inr (ne, get_or-set_other xs i x v d ne)
+
+put_at : (xs : List ℕ) (i v : ℕ) → i < length xs → (x : ℕ) → ((x ≡ i) × (slice_index (set xs i v) x ≡ v)) ⊎ (slice_index (set xs i v) x ≡ slice_index xs x)
+put_at xs i v l x = elim (written xs i v 0 l x) [ inl p ↦ inl p | inr p ↦ inr p.1 ]
 
 module _ (needs : List (List ℕ)) (firsts labels : List ℕ) (placed : List Bool) (left ready hand : List ℕ) (from : ℕ)
     (W : IsWaiting needs firsts labels placed left ready hand from) (N : IsNumbered needs firsts labels) (l rest : ℕ)
