@@ -1,5 +1,7 @@
 pub mod GroupRows
+pub mod Grouping
 pub mod LabelLemmas
+pub mod Numbering
 pub mod OneGrouping
 pub mod Placed
 pub mod Reached
