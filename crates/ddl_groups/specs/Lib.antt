@@ -5,3 +5,4 @@ pub mod Numbered
 pub mod Ordered
 pub mod Placing
 pub mod Reach
+pub mod Searching
