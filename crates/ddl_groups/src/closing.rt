@@ -25,7 +25,7 @@ fn close_all(path: &[u32], head: usize, label: u32, marks: &mut Vec<Mark>, label
     }
 }
 
-/// Closes the last group of the path, which begins at its last head. No contract reads the uses but by their list.
+/// Closes the last group of the path, which begins at its last head. The uses are here for the contract alone.
 fn close_last(search: &mut Search, _needs: &[Vec<u32>], head: usize)
     requires few { length _needs.now < 2 ^ 32 - 1 }
     requires holds { Holds (lists_of _needs.now) search.old }
