@@ -6,6 +6,7 @@ use Rattle.std.proofs.lemmas.List.{take_more}
 use Rattle.std.proofs.lemmas.List.Elements.{Contains-append_left, Contains-push, Contains-push_cases}
 use Rattle.ddl_groups.specs.Groups.{IsRising, group_at}
 use Rattle.ddl_groups.specs.Numbered.{AreGroupNeeds, AreMembers, AreNeedsMore, added}
+use Rattle.ddl_groups.specs.Ordered.{AreDeclared}
 use Rattle.ddl_groups.specs.Placing.{AreUsers}
 use Rattle.ddl_groups.specs.Reach.{Uses}
 use Rattle.ddl_groups.proofs.Rising.{Contains-first, Contains-rest}
@@ -147,3 +148,9 @@ module _ (needs : List (List ℕ)) (labels : List ℕ) (a : ℕ) (lists after : 
 
   pub group_needs_more : AreGroupNeeds needs labels (a + 1) after
   group_needs_more = record { has = λ x b l u ne. has x b l (cases_lt x a) u ne; only = λ l h c. only_so l h (M.only l h c) }
+
+-- what is used stays declared where one use of a declaration is added
+pub declared_more : (lists : List (List ℕ)) (at value : ℕ) → at < length lists → value < length lists → AreDeclared lists → AreDeclared (added lists at value)
+declared_more lists at value l m D a b u =
+    let e : length (added lists at value) ≡ length lists = length-set lists at (group_at lists at ++ value ∷ []) in
+    elim (in_added lists at value l a b u) [ inl c ↦ let k : b < length lists = D a b c in omega arith | inr p ↦ omega (arith, p.1) ]

@@ -18,3 +18,6 @@ mod uses;
 
 pub use laws::{groups_law, labels_law};
 pub use need_order::ordered;
+
+#[cfg(test)]
+mod tests;
