@@ -1,5 +1,17 @@
 pub mod GroupRows
+pub mod Grouping
+pub mod Idle
 pub mod LabelLemmas
+pub mod Closed
+pub mod Fronts
+pub mod Marked
+pub mod Numbering
 pub mod OneGrouping
+pub mod Opened
+pub mod Placed
 pub mod Reached
+pub mod ReadyLemmas
 pub mod Rising
+pub mod Settled
+pub mod Started
+pub mod Stepped
