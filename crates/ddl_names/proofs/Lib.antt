@@ -1,0 +1,19 @@
+pub mod Arguing
+mod BindingRows
+pub mod Declared
+pub mod Done
+pub mod Finding
+pub mod Gathering
+pub mod Keeping
+pub mod Kept
+mod KindRows
+pub mod Left
+pub mod Naming
+pub mod Outermost
+pub mod Outside
+pub mod Placed
+pub mod Refusing
+pub mod RowForms
+pub mod Scoped
+mod TwiceRows
+pub mod Walking

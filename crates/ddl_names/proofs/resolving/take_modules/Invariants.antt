@@ -1,0 +1,15 @@
+use Rattle.std.proofs.Common.{◌≡◌, ◌++◌, drop}
+use Rattle.ddl_names.specs.Findings.{all_uses, first_refusal}
+use Rattle.ddl_names.specs.Found.{AreNames}
+use Rattle.ddl_names.specs.Modules.{findings_from}
+use Rattle.ddl_names.specs.Resolves.{loaded}
+use Rattle.ddl_names.proofs.resolving.take_modules.Given as goal
+
+abbrev pub invariant-loop-place : goal.invariant-loop-place
+invariant-loop-place l =
+    record {
+      among : l.outer.units.now ≡ l.units;
+      named : AreNames (loaded l.units) l.outer.names.items;
+      rest : first_refusal (findings_from (loaded l.units) l.place (loaded (drop l.place l.units))) ≡ first_refusal (findings_from (loaded l.units) 0 (loaded l.units));
+      taken : l.uses.items ++ all_uses (findings_from (loaded l.units) l.place (loaded (drop l.place l.units))) ≡ all_uses (findings_from (loaded l.units) 0 (loaded l.units));
+    }

@@ -1,0 +1,114 @@
+ghost use Rattle.std.specs.Prelude.{[], ◌++◌, ◌+◌, ◌≡◌, ◌∷◌, IfErr, IfOk, OnOk, map};
+ghost use Rattle.ddl_tree.specs.ViewModule.{decl_view, param_view};
+ghost use Rattle.ddl_names.specs.Found.{unit_view};
+ghost use Rattle.ddl_names.specs.Resolves.{AreResolved, IsUnbound, info, info_view};
+ghost use Rattle.ddl_names.specs.Scope.{param_kind};
+
+use crate::declaration::{kind_of, name_of, params_of};
+use crate::params::kind_of as param_kind;
+use crate::resolving::bindings;
+use crate::{DeclInfo, Kind, NameError, Resolved};
+use ddl_base::{Bytes, NoMemory};
+use ddl_tree::{Decl, Module, Param, SourceUnit};
+use std::alloc::Global;
+
+// What parameters stand for.
+fn param_kinds(alloc: Global, params: &[Param]) -> Result<Vec<Kind>, NoMemory>
+    ensures { IfOk result (λ kinds. kinds.items ≡ map param_kind (map param_view params.now)) }
+{
+    let mut kinds = Vec::new(alloc);
+    for param in params {
+        kinds.push(param_kind(param))?;
+    }
+    Ok(kinds)
+}
+
+// A declaration of the module at this place, as it is kept.
+#[tactic(auto, using(crate::proofs::Keeping::keeping))]
+fn info_of(alloc: Global, unit: u32, decl: Decl) -> Result<DeclInfo, NoMemory>
+    ensures { IfOk result (λ kept. info_view kept ≡ info unit (decl_view decl)) }
+{
+    let name = Bytes::of(alloc, name_of(&decl).text.get())?;
+    let kind = kind_of(&decl);
+    let params = param_kinds(alloc, params_of(&decl))?;
+    Ok(DeclInfo {
+        unit,
+        name,
+        kind,
+        params,
+        decl,
+    })
+}
+
+// Puts a declaration of the module at this place behind those before.
+#[tactic(auto, using(crate::proofs::Keeping::keeping))]
+fn keep_decl(alloc: Global, unit: u32, decl: Decl, kept: &mut Vec<DeclInfo>) -> Result<(), NoMemory>
+    ensures { OnOk result (map info_view kept.new.items ≡ map info_view kept.old.items ++ info unit (decl_view decl) ∷ []) }
+{
+    let info = info_of(alloc, unit, decl)?;
+    kept.push(info)?;
+    Ok(())
+}
+
+// Puts the declarations of the module at this place behind those before.
+#[tactic(auto, using(crate::proofs::Keeping::keeping))]
+fn keep_decls(
+    alloc: Global,
+    unit: u32,
+    decls: Vec<Decl>,
+    kept: &mut Vec<DeclInfo>,
+) -> Result<(), NoMemory>
+    ensures { OnOk result (map info_view kept.new.items ≡ map info_view kept.old.items ++ map (info unit) (map decl_view decls.items)) }
+{
+    for decl in decls {
+        keep_decl(alloc, unit, decl, kept)?;
+    }
+    Ok(())
+}
+
+/// Puts a module behind those before.
+#[tactic(auto, using(crate::proofs::Keeping::keeping))]
+pub(crate) fn keep_unit(
+    alloc: Global,
+    place: u32,
+    unit: SourceUnit,
+    names: &mut Vec<Bytes>,
+    decls: &mut Vec<DeclInfo>,
+) -> Result<(), NoMemory>
+    ensures name { OnOk result (names.new.items ≡ names.old.items ++ unit.name ∷ []) }
+    ensures decls { OnOk result (map info_view decls.new.items ≡ map info_view decls.old.items ++ map (info place) (unit_view unit).tree.decls) }
+{
+    let SourceUnit {
+        name,
+        tree,
+        imports: _places,
+    } = unit;
+    let Module {
+        imports: _written,
+        decls: own,
+    } = tree;
+    names.push(name)?;
+    keep_decls(alloc, place, own, decls)?;
+    Ok(())
+}
+
+/// The place behind this one.
+pub(crate) fn next_place(place: u32) -> Result<u32, NoMemory>
+    ensures { IfOk result (λ n. n ≡ place + 1) }
+{
+    match place.checked_add(1) {
+        Some(next) => Ok(next),
+        None => Err(NoMemory),
+    }
+}
+
+/// The modules with their declarations in one list and the uses of names in them, each with what binds it, or the first rule that is not met. Unit 0 is the prelude.
+#[tactic(auto, using(crate::proofs::Keeping::keeping))]
+pub fn resolve(alloc: Global, units: Vec<SourceUnit>) -> Result<Resolved, NameError>
+    ensures resolved { IfOk result (AreResolved units.items) }
+    ensures refused { IfErr result (IsUnbound units.items) }
+{
+    let uses = bindings(alloc, &units)?;
+    let resolved = Resolved::of(alloc, units, uses)?;
+    Ok(resolved)
+}

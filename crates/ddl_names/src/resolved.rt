@@ -1,0 +1,67 @@
+use crate::BuiltIn;
+use crate::kept_decls::{keep_unit, next_place};
+use ddl_base::{Bytes, NoMemory, Span};
+use ddl_tree::{Decl, Kind, SourceUnit};
+use std::alloc::Global;
+
+/// What a use of a name is bound to.
+#[derive(Clone, Copy, Debug, PartialEq, Eq)]
+pub enum Bound {
+    /// The name of a parameter, a field, a `let`, a `for`, a `map` or a pattern, which stands there.
+    Local(Span),
+    /// The declaration of this number.
+    Decl(u32),
+    BuiltIn(BuiltIn),
+}
+
+/// A name that is used, and what it is bound to.
+#[derive(Clone, Copy, Debug, PartialEq, Eq)]
+pub struct Use {
+    pub span: Span,
+    pub bound: Bound,
+}
+
+/// A declaration, with its module and what its name stands for.
+#[derive(Drop)]
+pub struct DeclInfo {
+    /// The module's place in the list of units.
+    pub unit: u32,
+    pub name: Bytes,
+    pub kind: Kind,
+    pub params: Vec<Kind>,
+    pub decl: Decl,
+}
+
+/// Modules whose names are bound.
+#[derive(Drop)]
+pub struct Resolved {
+    /// The names of the modules.
+    pub units: Vec<Bytes>,
+    /// Their declarations, module by module in text order. A declaration's number is its place.
+    pub decls: Vec<DeclInfo>,
+    /// The uses in them, in the same order.
+    pub uses: Vec<Use>,
+}
+
+impl Resolved {
+    ghost use Rattle.std.specs.Prelude.{IfOk};
+    ghost use Rattle.ddl_names.specs.Resolves.{IsResolved};
+
+    /// These modules with these uses: what is declared in them stands in one list, in the order of the modules.
+    pub fn of(alloc: Global, units: Vec<SourceUnit>, uses: Vec<Use>) -> Result<Resolved, NoMemory>
+        ensures { IfOk result (IsResolved units.items uses.items) }
+    {
+        let mut names = Vec::new(alloc);
+        let mut decls = Vec::new(alloc);
+        let mut place = 0;
+        for unit in units {
+            keep_unit(alloc, place, unit, &mut names, &mut decls)?;
+            place = next_place(place)?;
+        }
+        Ok(Resolved {
+            units: names,
+            decls,
+            uses,
+        })
+    }
+}
