@@ -37,11 +37,11 @@ pub(crate) fn closing_answer(
 }
 
 /// The answer of a file that is not there.
-pub(crate) fn missing_answer(alloc: Global, name: &str) -> Result<Answer, NoMemory>
+pub(crate) fn missing_answer(alloc: Global, name: &[u8]) -> Result<Answer, NoMemory>
     ensures { IfOk result (λ a. (a.status ≡ Status.Missing)
         × (a.lines.items ≡ closing_only (Closing.Missing name.now))) }
 {
-    let name = Bytes::of(alloc, name.as_bytes())?;
+    let name = Bytes::of(alloc, name)?;
     closing_answer(alloc, Status::Missing, &Closing::Missing { name })
 }
 

@@ -2,10 +2,13 @@
 #![tactic(auto)]
 
 mod answer;
+mod checking;
 mod command;
 mod loading;
 mod names;
 mod refusal;
+mod running;
+mod showing;
 mod status;
 
 pub use command::run;

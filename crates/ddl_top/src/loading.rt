@@ -2,8 +2,8 @@ ghost use Rattle.std.specs.Prelude.{ℕ, ◌≡◌, ◌≤◌, ◌^◌, List, le
 ghost use Rattle.ddl_outside.specs.Files.{FilesState, IsFile, Later, TouchesOnly};
 ghost use Rattle.ddl_top.specs.Reading.{IsLoaded};
 
-use crate::refusal::{long_told, wrong_told};
 use ddl_base::{NoMemory, Told};
+use ddl_front::{long_told, source_told};
 use ddl_outside::{Files, Whole, read_whole};
 use ddl_source::tree_of;
 use ddl_tree::Module;
@@ -28,7 +28,7 @@ fn text_of(alloc: Global, name: &[u8], text: &[u8]) -> Result<Loaded, NoMemory>
 {
     match tree_of(alloc, 0, text) {
         Ok(tree) => Ok(Loaded::Tree(tree)),
-        Err(error) => Ok(Loaded::Refused(wrong_told(alloc, name, error)?)),
+        Err(error) => Ok(Loaded::Refused(source_told(alloc, name, error)?)),
     }
 }
 

@@ -1,6 +1,6 @@
-ghost use Rattle.std.specs.Prelude.{◌≡◌, ◌≤◌, map, string_bytes, option_map, IfOk};
+ghost use Rattle.std.specs.Prelude.{◌≡◌, ◌∷◌, [], map, string_bytes, option_map, IfOk};
 ghost use Rattle.ddl_top.specs.Reading.{command_view};
-ghost use Rattle.ddl_top.specs.Words.{command_of, file_of, line_name};
+ghost use Rattle.ddl_top.specs.Words.{command_of, file_of};
 
 use ddl_base::NoMemory;
 use std::alloc::Global;
@@ -10,11 +10,13 @@ use std::alloc::Global;
 pub(crate) enum Words<'a> {
     /// A run of a module on an input.
     Run { root: &'a str, input: &'a str },
+    /// A check of a module.
+    Check { root: &'a str },
     /// A module, printed.
     Show { root: &'a str },
 }
 
-/// The words of a command line, where they are `run MODULE INPUT` or `show MODULE`.
+/// The words of a command line, where they are `run MODULE INPUT`, `check MODULE` or `show MODULE`.
 pub(crate) fn command_of(words: &[String]) -> Option<Words<'_>>
     ensures { option_map command_view result ≡ command_of (map string_bytes words.now) }
 {
@@ -23,10 +25,21 @@ pub(crate) fn command_of(words: &[String]) -> Option<Words<'_>>
             root: words[1].as_str(),
             input: words[2].as_str(),
         })
-    } else if words.len() == 2 && words[0].as_str() == "show" {
-        Some(Words::Show {
-            root: words[1].as_str(),
-        })
+    } else if words.len() == 2 {
+        command_on(words[0].as_str(), words[1].as_str())
+    } else {
+        None
+    }
+}
+
+/// The words of a command with a module alone.
+fn command_on<'a>(word: &'a str, root: &'a str) -> Option<Words<'a>>
+    ensures { option_map command_view result ≡ command_of (word.now ∷ root.now ∷ []) }
+{
+    if word == "check" {
+        Some(Words::Check { root })
+    } else if word == "show" {
+        Some(Words::Show { root })
     } else {
         None
     }
@@ -39,17 +52,4 @@ pub(crate) fn module_file(alloc: Global, root: &str) -> Result<String, NoMemory>
     let mut name = String::from_str(alloc, root)?;
     name.push_str(".ddl")?;
     Ok(name)
-}
-
-/// A module's name in a line: what stands after the last slash.
-pub(crate) fn line_name(root: &[u8]) -> &[u8]
-    ensures { result.now ≡ line_name root.now }
-{
-    let mut start = 0;
-    for (at, byte) in root.iter().enumerate() {
-        if *byte == b'/' {
-            start = at + 1;
-        }
-    }
-    &root[start..]
 }

@@ -1,3 +1,5 @@
+mod modules;
+
 use crate::{Status, run};
 use ddl_outside::{Files, Length, MemFiles, MemSink, Piece};
 use std::alloc::Global;
@@ -16,8 +18,6 @@ const LAID_OUT: &str = "def Main = (block\n\tUInt8\n        UInt8)";
 const SHOWN: &str = "def Main = ( block { UInt8 ; UInt8 } )\n";
 
 const READ: &str = "{\"stopped\":\"read\"}\n";
-
-const UNBUILT: &str = "{\"stopped\":\"unbuilt\"}\n";
 
 const WORDS: &str = "{\"stopped\":\"words\"}\n";
 
@@ -71,7 +71,7 @@ const RUNS: [Row; 9] = [
         module: "def Main = block { ^ z }",
         input: "",
         status: Status::Refused,
-        text: UNBUILT,
+        text: "{\"refused\":{\"code\":\"names.1\",\"from\":21,\"module\":\"A\",\"more\":[],\"to\":22}}\n",
     },
     Row {
         words: "run A in",

@@ -1,6 +1,0 @@
-use Rattle.std.proofs.Common.{◌≡◌, ◌≤◌, drop}
-use Rattle.ddl_top.specs.Words.{after_slash}
-use Rattle.ddl_top.proofs.names.line_name.Given as goal
-
-abbrev pub invariant-loop-at : goal.invariant-loop-at
-invariant-loop-at l = (l.start ≤ l.at) × (after_slash l.root l.root ≡ after_slash (drop l.start l.root) (drop l.at l.root))
