@@ -1,6 +1,7 @@
 #!/bin/sh
 # Times runs of the program: a short block on a file of 100 MB beside the reading of that file, and a block of 2,000 items
 # on 2,000 bytes beside one of 1,000 on 1,000. Prints ratios; start-up, timed with no words, is taken off.
+without_bench=yes
 . "$(dirname -- "$0")/program.sh"
 ddl=$top/ddl
 "$ddl" >/dev/null 2>&1

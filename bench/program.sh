@@ -1,8 +1,11 @@
-# Sourced by the scripts beside it: builds ddl_bench, names it in $program, and gives a folder that goes at the end.
+# Sourced by the scripts beside it: builds ddl_bench, unless $without_bench is set, names it in $program, and gives a folder
+# that goes at the end.
 top=$(CDPATH='' cd -- "$(dirname -- "$0")/.." && pwd) || exit 1
 program=$top/crates/ddl_bench/out/ddl_bench
-(cd "$top/crates/ddl_bench" && rt run >/dev/null 2>&1)
-[ -x "$program" ] || { echo "ddl_bench does not build: try rt check in crates/ddl_bench" >&2; exit 1; }
+if [ -z "${without_bench-}" ]; then
+    (cd "$top/crates/ddl_bench" && rt run >/dev/null 2>&1)
+    [ -x "$program" ] || { echo "ddl_bench does not build: try rt check in crates/ddl_bench" >&2; exit 1; }
+fi
 folder=$(mktemp -d) || exit 1
 trap 'rm -rf "$folder"' EXIT
 
