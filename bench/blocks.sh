@@ -6,8 +6,8 @@ without_bench=yes
 ddl=$top/ddl
 "$ddl" >/dev/null 2>&1
 
-# The milliseconds of a run of module $1 on input $2, without start-up.
-run_of() { echo $(($(milliseconds "$ddl" run "$folder/$1" "$folder/$2") - start)); }
+# The microseconds of a run of module $1 on input $2, without start-up.
+run_of() { echo $(($(microseconds "$ddl" run "$folder/$1" "$folder/$2") - start)); }
 
 block_of() {
     printf 'def Main = block {'
@@ -17,13 +17,13 @@ block_of() {
 }
 
 start_up() { "$ddl" || true; }
-start=$(milliseconds start_up)
+start=$(microseconds start_up)
 
 printf 'def Main = block { UInt8; UInt8 }' >"$folder/pair.ddl"
 head -c 100000000 /dev/zero >"$folder/large"
-once=$(milliseconds cksum "$folder/large")
+once=$(microseconds cksum "$folder/large")
 pair=$(run_of pair large)
-echo "a block of two bytes on 100 MB: $pair ms, $((pair * 100 / (once + 1))) % of reading the file once with cksum ($once ms)"
+echo "a block of two bytes on 100 MB: $((pair / 1000)) ms, $((pair * 100 / once)) % of reading the file once with cksum ($((once / 1000)) ms)"
 
 for n in 1000 2000; do
     block_of "$n" >"$folder/block$n.ddl"
@@ -31,4 +31,4 @@ for n in 1000 2000; do
 done
 small=$(run_of block1000 bytes1000)
 great=$(run_of block2000 bytes2000)
-echo "a block of 2,000 items: $great ms, $((great * 100 / (small + 1))) % of one of 1,000 ($small ms)"
+echo "a block of 2,000 items: $great us, $((great * 100 / small)) % of one of 1,000 ($small us)"

@@ -9,14 +9,17 @@ fi
 folder=$(mktemp -d) || exit 1
 trap 'rm -rf "$folder"' EXIT
 
-# The milliseconds that a command takes, the least of five runs; its output goes to a file.
-milliseconds() {
+# The microseconds that a command takes, the least of five runs; its output goes to a file.
+microseconds() {
     least=
     for _ in 1 2 3 4 5; do
         begin=$(date +%s%N)
         "$@" >"$folder/output" || exit 1
-        took=$((($(date +%s%N) - begin) / 1000000))
+        took=$((($(date +%s%N) - begin) / 1000))
         if [ -z "$least" ] || [ "$took" -lt "$least" ]; then least=$took; fi
     done
     echo "$least"
 }
+
+# The same in milliseconds.
+milliseconds() { echo $(($(microseconds "$@") / 1000)); }
