@@ -18,15 +18,12 @@ use Rattle.ddl_unify.specs.Kept.{Step, StepIs}
 use Rattle.ddl_unify.specs.Solving.{Extends}
 use Rattle.ddl_unify.specs.Comparing.{same_pair, KnownOne, Awaits, EachAwaits, Remembers}
 use Rattle.ddl_unify.proofs.Keeping.{extends_same}
+use Rattle.ddl_unify.proofs.Stored.{onto_append}
 use Rattle.ddl_unify.proofs.Steps.{solves_append, steps_less, size_some}
 
 agrees_under : (bs : List Binding) (xs : List Bound) (f : Sub) → Agrees f (onto bs xs) → Agrees f bs
 agrees_under bs [] f a = a
 agrees_under bs (x ∷ xs) f a = (agrees_under (bound_view x ∷ bs) xs f a).1
-
-onto_append : (bs : List Binding) (a b : List Bound) → onto bs (a ++ b) ≡ onto (onto bs a) b
-onto_append bs [] b = refl
-onto_append bs (x ∷ a) b = onto_append (bound_view x ∷ bs) a b
 
 -- a map that agrees with more bindings agrees with the first of them
 agrees_front : (a b : List Bound) (f : Sub) → Extends a b → Agrees f (bounds b) → Agrees f (bounds a)

@@ -56,7 +56,7 @@ get_more (x ∷ xs) zero = refl
 get_more (x ∷ xs) (suc v) = get_more xs v
 
 mutual
-  below_more : (x : Ty) (m n : ℕ) → m ≤ n → Below x m → Below x n
+  pub below_more : (x : Ty) (m n : ℕ) → m ≤ n → Below x m → Below x n
   below_more (var v) m n h b = omega (arith, b)
   below_more (con c ts) m n h b = below_all_more ts m n h b
 

@@ -4,6 +4,7 @@ pub mod Equating
 pub mod Going
 pub mod Keeping
 pub mod Marking
+pub mod Naming
 pub mod Opening
 pub mod Parts
 pub mod ReadingLemmas

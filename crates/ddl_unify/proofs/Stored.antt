@@ -7,6 +7,10 @@ use Rattle.ddl_unify.specs.View.{bound_view, onto, bounds}
 use Rattle.ddl_unify.specs.Bindings.{Binding, Binds}
 use Rattle.ddl_unify.specs.Kept.{Kept, IsFrom}
 
+pub onto_append : (bs : List Binding) (a b : List Bound) → onto bs (a ++ b) ≡ onto (onto bs a) b
+onto_append bs [] b = refl
+onto_append bs (x ∷ a) b = onto_append (bound_view x ∷ bs) a b
+
 onto_last : (bs : List Binding) (xs : List Bound) (x : Bound) → onto bs (xs ++ x ∷ []) ≡ bound_view x ∷ onto bs xs
 onto_last bs [] x = refl
 onto_last bs (y ∷ xs) x = onto_last (bound_view y ∷ bs) xs x

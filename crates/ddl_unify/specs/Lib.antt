@@ -4,6 +4,7 @@ pub mod Equations
 pub mod Heads
 pub mod Kept
 pub mod Measures
+pub mod Named
 pub mod Occurs
 pub mod Refused
 pub mod Solving

@@ -11,6 +11,7 @@ mod rows;
 mod solver;
 mod solving;
 mod store;
+mod written;
 
 pub use refusal::EquateError;
 pub use solver::Solver;

@@ -5,30 +5,39 @@ ghost use Rattle.std.specs.HashSet.{contains};
 ghost use Rattle.ddl_types.specs.Types.{Ty.var, on, tys_of};
 ghost use Rattle.ddl_types.specs.TyView.{ty_view};
 ghost use Rattle.ddl_unify.specs.Occurs.{has, has_all};
-ghost use Rattle.ddl_unify.specs.Bindings.{solution};
+ghost use Rattle.ddl_unify.specs.Bindings.{Unbound, solution};
 ghost use Rattle.ddl_unify.specs.View.{bounds};
 ghost use Rattle.ddl_unify.specs.Kept.{Kept};
+ghost use Rattle.ddl_unify.specs.Named.{Named};
 ghost use Rattle.ddl_unify.specs.Solving.{Marks, MarkedOne, list_has};
 
 use crate::reading::bound_to;
 use crate::store::Bound;
+use crate::written::{holds, is_named};
 use ddl_base::NoMemory;
 use ddl_types::Ty;
 use std::alloc::Global;
 use std::collections::HashSet;
 
-/// Whether a variable stands in a type. Each bound variable is followed once.
+/// Whether a variable that is not bound stands in a type. If it stands in no type that others were
+/// bound to, no binding leads to it; else each bound variable is followed once.
 #[tactic(auto, using(crate::proofs::Marking::markings))]
 pub fn occurs(
     alloc: Global,
     place: &[u32],
     trail: &[Bound],
+    named: &[bool],
     t: &Ty,
     v: u32,
 ) -> Result<bool, NoMemory>
-    requires { Kept place.now trail.now }
+    requires kept { Kept place.now trail.now }
+    requires named { Named named.now place.now trail.now }
+    requires free { Unbound v (bounds trail.now) }
     ensures { IfOk result (λ b. b ≡ has (on (ty_view t.now) (solution (bounds trail.now))) v) }
 {
+    if !is_named(named, v) {
+        return Ok(holds(t, v));
+    }
     let mut seen = HashSet::new(alloc);
     let found = stands(place, trail, &mut seen, t, v)?;
     Ok(found)

@@ -4,12 +4,13 @@ ghost use Rattle.std.specs.Prelude.{◌≡◌, IfOk, MatchResult, List};
 ghost use Rattle.ddl_types.specs.Types.{Ty.var, on};
 ghost use Rattle.ddl_types.specs.TyView.{ty_view};
 ghost use Rattle.ddl_unify.specs.Equations.{Equation, Endless};
-ghost use Rattle.ddl_unify.specs.Bindings.{solution};
+ghost use Rattle.ddl_unify.specs.Bindings.{Unbound, solution};
 ghost use Rattle.ddl_unify.specs.Refused.{Refused, IsClash};
 ghost use Rattle.ddl_unify.specs.Solving.{holder};
 ghost use Rattle.ddl_unify.specs.View.{bounds};
 ghost use Rattle.ddl_unify.specs.declared.refusal.EquateError.TheVariants as error;
 ghost use Rattle.ddl_unify.specs.Kept.{Kept};
+ghost use Rattle.ddl_unify.specs.Named.{Named};
 
 use crate::occurs::occurs;
 use crate::reading::{read, unbound};
@@ -43,16 +44,18 @@ fn held(
     alloc: Global,
     place: &[u32],
     trail: &[Bound],
+    named: &[bool],
     left: &Ty,
     right: &Ty,
 ) -> Result<Option<u32>, NoMemory>
-    requires { Kept place.now trail.now }
+    requires kept { Kept place.now trail.now }
+    requires named { Named named.now place.now trail.now }
     ensures { IfOk result (λ o. o ≡ holder (on (ty_view left.now) (solution (bounds trail.now))) (on (ty_view right.now) (solution (bounds trail.now)))) }
 {
     match unbound(place, trail, left) {
         None => Ok(None),
         Some(v) => {
-            let held = held_in(alloc, place, trail, v, right)?;
+            let held = held_in(alloc, place, trail, named, v, right)?;
             Ok(held)
         }
     }
@@ -64,16 +67,19 @@ fn held_in(
     alloc: Global,
     place: &[u32],
     trail: &[Bound],
+    named: &[bool],
     v: u32,
     right: &Ty,
 ) -> Result<Option<u32>, NoMemory>
-    requires { Kept place.now trail.now }
+    requires kept { Kept place.now trail.now }
+    requires named { Named named.now place.now trail.now }
+    requires free { Unbound v (bounds trail.now) }
     ensures { IfOk result (λ o. o ≡ holder (var v) (on (ty_view right.now) (solution (bounds trail.now)))) }
 {
     if unbound(place, trail, right).is_some() {
         return Ok(None);
     }
-    if occurs(alloc, place, trail, right, v)? {
+    if occurs(alloc, place, trail, named, right, v)? {
         Ok(Some(v))
     } else {
         Ok(None)
@@ -85,17 +91,19 @@ pub fn refuse_endless(
     alloc: Global,
     place: &[u32],
     trail: &[Bound],
+    named: &[bool],
     left: &Ty,
     right: &Ty,
 ) -> Result<(), EquateError>
-    requires { Kept place.now trail.now }
+    requires kept { Kept place.now trail.now }
+    requires named { Named named.now place.now trail.now }
     ensures { MatchResult result (λ _. Endless (on (ty_view left.now) (solution (bounds trail.now))) (on (ty_view right.now) (solution (bounds trail.now))) → ⊥) (λ e. (es : List Equation) → Refused e es (solution (bounds trail.now)) (ty_view left.now) (ty_view right.now)) }
 {
-    if let Some(v) = held(alloc, place, trail, left, right)? {
+    if let Some(v) = held(alloc, place, trail, named, left, right)? {
         let read = read(alloc, place, trail, right)?;
         return Err(EquateError::Endless(v, read));
     }
-    if let Some(v) = held(alloc, place, trail, right, left)? {
+    if let Some(v) = held(alloc, place, trail, named, right, left)? {
         let read = read(alloc, place, trail, left)?;
         return Err(EquateError::Endless(v, read));
     }

@@ -7,6 +7,7 @@ ghost use Rattle.ddl_unify.specs.Equations.{equal, MostGeneral};
 ghost use Rattle.ddl_unify.specs.Bindings as b;
 ghost use Rattle.ddl_unify.specs.View.{bounds, equations};
 ghost use Rattle.ddl_unify.specs.Kept.{Kept, Holding};
+ghost use Rattle.ddl_unify.specs.Named.{Named};
 ghost use Rattle.ddl_unify.specs.Solving.{Back};
 ghost use Rattle.ddl_unify.specs.Refused.{Refused};
 ghost use Rattle.ddl_unify.specs.State.{accepted, solution, variables};
@@ -32,6 +33,7 @@ pub struct Solver {
     alloc: Global,
     place: Vec<u32>,
     trail: Vec<Bound>,
+    named: Vec<bool>,
     accepted: Vec<Pair>,
 }
 
@@ -48,10 +50,11 @@ impl Model for Solver {
 
     ghost use Rattle.ddl_unify.specs.View.{equations};
     ghost use Rattle.ddl_unify.specs.Kept.{Holding};
+    ghost use Rattle.ddl_unify.specs.Named.{Named};
 
     ghost view = { λ s. (s.accepted.items, s.trail.items, length s.place.items) };
 
-    ghost invariant = { λ s. Holding (equations s.accepted.items) s.place.items s.trail.items };
+    ghost invariant = { λ s. Holding (equations s.accepted.items) s.place.items s.trail.items × Named s.named.items s.place.items s.trail.items };
 }
 
 impl Solver {
@@ -64,6 +67,7 @@ impl Solver {
             alloc,
             place: Vec::new(alloc),
             trail: Vec::new(alloc),
+            named: Vec::new(alloc),
             accepted: Vec::new(alloc),
         }
     }
@@ -77,6 +81,7 @@ impl Solver {
         ensures unchanged { OnErr result (self.new ≡ self.old) }
     {
         let v = self.place.len() as u32;
+        self.named.push(false)?;
         self.place.push(0)?;
         Ok(v)
     }
@@ -95,6 +100,7 @@ impl Solver {
             self.alloc,
             &mut self.place,
             &mut self.trail,
+            &mut self.named,
             &mut self.accepted,
             left,
             right,
@@ -115,25 +121,28 @@ fn equate(
     alloc: Global,
     place: &mut Vec<u32>,
     trail: &mut Vec<Bound>,
+    named: &mut [bool],
     accepted: &mut Vec<Pair>,
     left: &Ty,
     right: &Ty,
 ) -> Result<(), EquateError>
     requires holding { Holding (equations accepted.old.items) place.old.items trail.old.items }
+    requires named { Named named.old place.old.items trail.old.items }
     requires left_below { Below (ty_view left.now) (length place.old.items) }
     requires right_below { Below (ty_view right.now) (length place.old.items) }
     ensures holding { Holding (equations accepted.new.items) place.new.items trail.new.items }
+    ensures named { Named named.new place.new.items trail.new.items }
     ensures long { length place.new.items ≡ length place.old.items }
     ensures accepted { IfOk result (λ _. equations accepted.new.items ≡ equations accepted.old.items ++ equal (ty_view left.now) (ty_view right.now) ∷ []) }
     ensures refused { MatchResult result (λ _. Unit {0}) (λ e. Refused e (equations accepted.old.items) (b.solution (bounds trail.old.items)) (ty_view left.now) (ty_view right.now)) }
     ensures unchanged { OnErr result ((accepted.new.items ≡ accepted.old.items) × (trail.new.items ≡ trail.old.items)) }
 {
-    match refuse_endless(alloc, place, trail, left, right) {
+    match refuse_endless(alloc, place, trail, named, left, right) {
         Err(e) => return Err(e),
         Ok(()) => {}
     }
     let n = trail.len();
-    match try_solve(alloc, place, trail, left, right) {
+    match try_solve(alloc, place, trail, named, left, right) {
         Err(_) => Err(EquateError::NoMemory),
         Ok(false) => Err(clash(alloc, place, trail, left, right)),
         Ok(true) => match accept(alloc, place, trail, accepted, n, left, right) {

@@ -11,6 +11,7 @@ ghost use Rattle.ddl_unify.specs.Bindings.{Unbound, solution};
 ghost use Rattle.ddl_unify.specs.Heads.{IsCon};
 ghost use Rattle.ddl_unify.specs.View.{bounds, equations};
 ghost use Rattle.ddl_unify.specs.Kept.{Kept, Step, StepIs, SplitIs, SolvedIs};
+ghost use Rattle.ddl_unify.specs.Named.{Named};
 ghost use Rattle.ddl_unify.specs.Solving.{Fine, Opened, Tried, Extends};
 
 use crate::compared::Compared;
@@ -18,6 +19,7 @@ use crate::heads::{is_alike, push_parts};
 use crate::occurs::occurs;
 use crate::reading::{bound_to, unbound};
 use crate::store::{Bound, Pair};
+use crate::written::mark;
 use ddl_base::NoMemory;
 use ddl_types::Ty;
 use std::alloc::Global;
@@ -76,37 +78,54 @@ fn opened_in(alloc: Global, place: &[u32], trail: &[Bound], t: &Ty) -> Result<Ty
 }
 
 /// Binds a variable that is not bound to a type that does not hold it.
-fn keep(place: &mut Vec<u32>, trail: &mut Vec<Bound>, v: u32, t: Ty) -> Result<(), NoMemory>
+fn keep(
+    place: &mut Vec<u32>,
+    trail: &mut Vec<Bound>,
+    named: &mut [bool],
+    v: u32,
+    t: Ty,
+) -> Result<(), NoMemory>
     requires kept { Kept place.old.items trail.old.items }
+    requires named { Named named.old place.old.items trail.old.items }
     requires free { Unbound v (bounds trail.old.items) }
     requires absent { has (on (ty_view t) (solution (bounds trail.old.items))) v ≡ false }
     requires within { v < length place.old.items }
     requires below { Below (ty_view t) (length place.old.items) }
     ensures fine { Fine place.old.items place.new.items trail.old.items trail.new.items }
+    ensures named { Named named.new place.new.items trail.new.items }
     ensures step { IfOk result (λ _. (es : List Equation) → EachBelow es (length place.old.items) → Step place.old.items trail.old.items es (var v) (ty_view t) place.new.items trail.new.items es) }
 {
     if trail.len() >= u32::MAX as usize {
         return Err(NoMemory);
     }
+    mark(&t, named);
     trail.push(Bound { from: v, to: t })?;
     place[v as usize] = trail.len() as u32;
     Ok(())
 }
 
 /// Makes two variables that are not bound equal.
-fn keep_same(place: &mut Vec<u32>, trail: &mut Vec<Bound>, v: u32, w: u32) -> Result<(), NoMemory>
+fn keep_same(
+    place: &mut Vec<u32>,
+    trail: &mut Vec<Bound>,
+    named: &mut [bool],
+    v: u32,
+    w: u32,
+) -> Result<(), NoMemory>
     requires kept { Kept place.old.items trail.old.items }
+    requires named { Named named.old place.old.items trail.old.items }
     requires v_free { Unbound v (bounds trail.old.items) }
     requires w_free { Unbound w (bounds trail.old.items) }
     requires v_within { v < length place.old.items }
     requires w_within { w < length place.old.items }
     ensures fine { Fine place.old.items place.new.items trail.old.items trail.new.items }
+    ensures named { Named named.new place.new.items trail.new.items }
     ensures step { IfOk result (λ _. (es : List Equation) → EachBelow es (length place.old.items) → Step place.old.items trail.old.items es (var v) (var w) place.new.items trail.new.items es) }
 {
     if v == w {
         return Ok(());
     }
-    keep(place, trail, v, Ty::Var(w))?;
+    keep(place, trail, named, v, Ty::Var(w))?;
     Ok(())
 }
 
@@ -115,24 +134,27 @@ fn bind(
     alloc: Global,
     place: &mut Vec<u32>,
     trail: &mut Vec<Bound>,
+    named: &mut [bool],
     v: u32,
     t: Ty,
 ) -> Result<bool, NoMemory>
     requires kept { Kept place.old.items trail.old.items }
+    requires named { Named named.old place.old.items trail.old.items }
     requires free { Unbound v (bounds trail.old.items) }
     requires within { v < length place.old.items }
     requires below { Below (ty_view t) (length place.old.items) }
     ensures fine { Fine place.old.items place.new.items trail.old.items trail.new.items }
+    ensures named { Named named.new place.new.items trail.new.items }
     ensures step { IfOk result (λ b. (es : List Equation) → EachBelow es (length place.old.items) → StepIs b place.old.items trail.old.items es (var v) (ty_view t) place.new.items trail.new.items es) }
 {
     if let Some(w) = unbound(place, trail, &t) {
-        keep_same(place, trail, v, w)?;
+        keep_same(place, trail, named, v, w)?;
         return Ok(true);
     }
-    if occurs(alloc, place, trail, &t, v)? {
+    if occurs(alloc, place, trail, named, &t, v)? {
         return Ok(false);
     }
-    keep(place, trail, v, t)?;
+    keep(place, trail, named, v, t)?;
     Ok(true)
 }
 
@@ -154,23 +176,26 @@ fn step(
     alloc: Global,
     place: &mut Vec<u32>,
     trail: &mut Vec<Bound>,
+    named: &mut [bool],
     stack: &mut Vec<Pair>,
     pair: Pair,
 ) -> Result<bool, NoMemory>
     requires kept { Kept place.old.items trail.old.items }
+    requires named { Named named.old place.old.items trail.old.items }
     requires left_below { Below (ty_view pair.left) (length place.old.items) }
     requires right_below { Below (ty_view pair.right) (length place.old.items) }
     requires stack_below { EachBelow (equations stack.old.items) (length place.old.items) }
     ensures fine { Fine place.old.items place.new.items trail.old.items trail.new.items }
+    ensures named { Named named.new place.new.items trail.new.items }
     ensures step { IfOk result (λ b. StepIs b place.old.items trail.old.items (equations stack.old.items) (ty_view pair.left) (ty_view pair.right) place.new.items trail.new.items (equations stack.new.items)) }
 {
     let Pair { left, right } = pair;
     if let Some(v) = unbound(place, trail, &left) {
-        let done = bind(alloc, place, trail, v, right)?;
+        let done = bind(alloc, place, trail, named, v, right)?;
         return Ok(done);
     }
     if let Some(v) = unbound(place, trail, &right) {
-        let done = bind(alloc, place, trail, v, left)?;
+        let done = bind(alloc, place, trail, named, v, left)?;
         return Ok(done);
     }
     let left = opened(alloc, place, trail, left)?;
@@ -198,6 +223,7 @@ fn compare(
     alloc: Global,
     place: &mut Vec<u32>,
     trail: &mut Vec<Bound>,
+    named: &mut [bool],
     stack: &mut Vec<Pair>,
     compared: &mut Compared,
     pair: Pair,
@@ -205,6 +231,7 @@ fn compare(
     w: u32,
 ) -> Result<bool, NoMemory>
     requires kept { Kept place.old.items trail.old.items }
+    requires named { Named named.old place.old.items trail.old.items }
     requires left_is { ty_view pair.left ≡ var v }
     requires right_is { ty_view pair.right ≡ var w }
     requires left_below { Below (ty_view pair.left) (length place.old.items) }
@@ -212,6 +239,7 @@ fn compare(
     requires stack_below { EachBelow (equations stack.old.items) (length place.old.items) }
     requires remembers { Remembers compared.old trail.old.items (equations stack.old.items ++ equal (ty_view pair.left) (ty_view pair.right) ∷ []) }
     ensures fine { Fine place.old.items place.new.items trail.old.items trail.new.items }
+    ensures named { Named named.new place.new.items trail.new.items }
     ensures step { IfOk result (λ b. StepIs b place.old.items trail.old.items (equations stack.old.items) (ty_view pair.left) (ty_view pair.right) place.new.items trail.new.items (equations stack.new.items)) }
     ensures remembers { IfOk result (λ b. OnTrue b (Remembers compared.new trail.new.items (equations stack.new.items))) }
 {
@@ -219,7 +247,7 @@ fn compare(
         return Ok(true);
     }
     let above = stack.len();
-    if !step(alloc, place, trail, stack, pair)? {
+    if !step(alloc, place, trail, named, stack, pair)? {
         return Ok(false);
     }
     if stack.len() == above {
@@ -235,27 +263,30 @@ fn turn(
     alloc: Global,
     place: &mut Vec<u32>,
     trail: &mut Vec<Bound>,
+    named: &mut [bool],
     stack: &mut Vec<Pair>,
     compared: &mut Compared,
     pair: Pair,
 ) -> Result<bool, NoMemory>
     requires kept { Kept place.old.items trail.old.items }
+    requires named { Named named.old place.old.items trail.old.items }
     requires left_below { Below (ty_view pair.left) (length place.old.items) }
     requires right_below { Below (ty_view pair.right) (length place.old.items) }
     requires stack_below { EachBelow (equations stack.old.items) (length place.old.items) }
     requires remembers { Remembers compared.old trail.old.items (equations stack.old.items ++ equal (ty_view pair.left) (ty_view pair.right) ∷ []) }
     ensures fine { Fine place.old.items place.new.items trail.old.items trail.new.items }
+    ensures named { Named named.new place.new.items trail.new.items }
     ensures step { IfOk result (λ b. StepIs b place.old.items trail.old.items (equations stack.old.items) (ty_view pair.left) (ty_view pair.right) place.new.items trail.new.items (equations stack.new.items)) }
     ensures remembers { IfOk result (λ b. OnTrue b (Remembers compared.new trail.new.items (equations stack.new.items))) }
 {
     compared.settle(stack.len())?;
     match variables(&pair) {
         None => {
-            let done = step(alloc, place, trail, stack, pair)?;
+            let done = step(alloc, place, trail, named, stack, pair)?;
             Ok(done)
         }
         Some((v, w)) => {
-            let done = compare(alloc, place, trail, stack, compared, pair, v, w)?;
+            let done = compare(alloc, place, trail, named, stack, compared, pair, v, w)?;
             Ok(done)
         }
     }
@@ -266,16 +297,19 @@ fn solve(
     alloc: Global,
     place: &mut Vec<u32>,
     trail: &mut Vec<Bound>,
+    named: &mut [bool],
     mut stack: Vec<Pair>,
 ) -> Result<bool, NoMemory>
     requires kept { Kept place.old.items trail.old.items }
+    requires named { Named named.old place.old.items trail.old.items }
     requires below { EachBelow (equations stack.items) (length place.old.items) }
     ensures fine { Fine place.old.items place.new.items trail.old.items trail.new.items }
+    ensures named { Named named.new place.new.items trail.new.items }
     ensures solved { IfOk result (λ b. SolvedIs b (bounds trail.old.items) (equations stack.items) (bounds trail.new.items)) }
 {
     let mut compared = Compared::new(alloc);
     while let Some(pair) = stack.pop() {
-        if !turn(alloc, place, trail, &mut stack, &mut compared, pair)? {
+        if !turn(alloc, place, trail, named, &mut stack, &mut compared, pair)? {
             return Ok(false);
         }
     }
@@ -315,12 +349,15 @@ pub fn try_solve(
     alloc: Global,
     place: &mut Vec<u32>,
     trail: &mut Vec<Bound>,
+    named: &mut [bool],
     left: &Ty,
     right: &Ty,
 ) -> Result<bool, NoMemory>
     requires kept { Kept place.old.items trail.old.items }
+    requires named { Named named.old place.old.items trail.old.items }
     requires left_below { Below (ty_view left.now) (length place.old.items) }
     requires right_below { Below (ty_view right.now) (length place.old.items) }
+    ensures named { Named named.new place.new.items trail.new.items }
     ensures tried { Tried result place.old.items place.new.items trail.old.items trail.new.items (ty_view left.now) (ty_view right.now) }
 {
     let n = trail.len();
@@ -328,7 +365,7 @@ pub fn try_solve(
     let left = left.copy(alloc)?;
     let right = right.copy(alloc)?;
     stack.push(Pair { left, right })?;
-    let done = solve(alloc, place, trail, stack);
+    let done = solve(alloc, place, trail, named, stack);
     match done {
         Ok(true) => Ok(true),
         Ok(false) => {

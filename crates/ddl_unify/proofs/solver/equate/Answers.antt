@@ -5,6 +5,7 @@ use Rattle.ddl_unify.specs.declared.store.Pair.{Pair}
 use Rattle.ddl_unify.specs.View.{equations}
 use Rattle.ddl_unify.specs.Kept.{Holding}
 use Rattle.ddl_unify.specs.Solving.{TriedIs}
+use Rattle.ddl_unify.proofs.Naming.{named_front}
 use Rattle.ddl_unify.proofs.Undoing.{unchanged}
 use Rattle.ddl_unify.proofs.Equating.{holding_same, holding_pushed, clash_none}
 use Rattle.ddl_unify.proofs.Refusing.{clash_refused, not_endless_there}
@@ -56,3 +57,8 @@ returns-in-Ok-false-clause-refused c =
     clash_refused c.clash.result (equations c.args.accepted.now.items) c.args.trail.now.items c.deref-in-Ok-false-2.result.now (ty_view c.args.left.now) (ty_view c.args.right.now) (c.deref-in-Ok-false-2.ensures.value ∙ s.0.same) c.clash.ensures
     (clash_none (equations c.args.accepted.now.items) c.args.place.now.items c.args.trail.now.items (ty_view c.args.left.now) (ty_view c.args.right.now) c.requires.holding s.1)
     (not_endless_there c.args.trail.now.items c.deref-2.result.now (ty_view c.args.left.now) (ty_view c.args.right.now) c.deref-2.ensures.value c.in-Ok.ensures)
+
+pub returns-in-Err-accept-clause-named : goal.returns-in-Err-accept-clause-named
+returns-in-Err-accept-clause-named c =
+    let d = c.in-Err-accept.ensures.back in
+    named_front c.try_solve.new.named c.try_solve.new.place.items c.accept.new.place.items c.try_solve.new.trail.items c.accept.new.trail.items d.1.extends d.1.long c.in-Ok-true.ensures.named

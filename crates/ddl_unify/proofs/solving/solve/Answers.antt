@@ -13,6 +13,7 @@ use Rattle.ddl_unify.proofs.solving.solve.Goals as goal
 pub loop-pair-init : goal.loop-pair-init
 loop-pair-init c = record {
   going = going_first c.args.place.now.items c.args.trail.now.items (equations c.args.stack.items) c.requires.kept c.requires.below;
+  named = c.requires.named;
   remembers = c.new-compared.ensures c.args.trail.now.items (equations c.args.stack.items);
 }
 
@@ -59,5 +60,6 @@ loop-pair-preserved c = record {
   going = going_next _ _ _ c.loop-pair.place.items c.loop-pair.trail.items (equations c.loop-pair.stack.items) (equations c.pop.new.self.items) (pair_view c.in-Some.pair) c.turn.new.place.items c.turn.new.trail.items (equations c.turn.new.stack.items) c.loop-pair.invariant.going (equations_last c.pop.new.self.items c.loop-pair.stack.items c.in-Some.pair c.in-Some.ensures.items) c.in_ok-turn.ensures.fine
       (let P : Bool → Type 0 = λ b. StepIs b c.loop-pair.place.items c.loop-pair.trail.items (equations c.pop.new.self.items) (ty_view c.in-Some.pair.left) (ty_view c.in-Some.pair.right) c.turn.new.place.items c.turn.new.trail.items (equations c.turn.new.stack.items) in
       subst P c.if-not-branch.false c.in_ok-turn.ensures.step);
+  named = c.in_ok-turn.ensures.named;
   remembers = on_true c.in_ok-turn.field-0 _ c.in_ok-turn.ensures.remembers c.if-not-branch.false;
 }

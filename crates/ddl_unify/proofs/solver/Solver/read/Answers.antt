@@ -10,4 +10,4 @@ use Rattle.ddl_unify.proofs.solver.Solver.read.Goals as goal
 pub returns-clause-most : goal.returns-clause-most
 returns-clause-most c =
     let P : (List Pair × List Bound × ℕ) → Type 0 = λ s. MostGeneral (accepted s) (solution s) in
-    subst P c.self.view_is (holding_most (equations c.self.inside.accepted.items) c.self.inside.place.items c.self.inside.trail.items c.self.invariant)
+    subst P c.self.view_is (holding_most (equations c.self.inside.accepted.items) c.self.inside.place.items c.self.inside.trail.items c.self.invariant.0)
