@@ -1,8 +1,7 @@
 #!/bin/sh
 # How the time of the solver grows: a chain of variables, each an array of another, and a tower of them, each a map from
 # another to itself, whose outermost type written out would have 2^height parts. Each is built in both orders: every
-# variable made of the next, or of the one before. In the second order each equation leads through all that stands, so
-# that the time grows with the square. Last two towers of maps whose outermost variables are made equal: they have
+# variable made of the next, or of the one before. Last two towers of maps whose outermost variables are made equal: they have
 # 2^height paths, and as many pairs of variables as they are high. Their time is told as a share of that of one tower
 # of the same height too, where that takes long enough.
 . "$(dirname -- "$0")/program.sh"

@@ -33,6 +33,7 @@ pub struct Solver {
     alloc: Global,
     place: Vec<u32>,
     trail: Vec<Bound>,
+    /// Whether a variable stands in a stored type; a mark outlives a binding that is taken back.
     named: Vec<bool>,
     accepted: Vec<Pair>,
 }
@@ -81,6 +82,7 @@ impl Solver {
         ensures unchanged { OnErr result (self.new ≡ self.old) }
     {
         let v = self.place.len() as u32;
+        // first the mark: one too many says nothing
         self.named.push(false)?;
         self.place.push(0)?;
         Ok(v)
