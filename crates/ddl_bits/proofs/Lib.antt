@@ -7,6 +7,7 @@ pub mod Layers
 pub mod Mixing
 pub mod Pairs
 pub mod Reading
+pub mod Runs
 pub mod Searching
 pub mod Sized
 pub mod Steps

@@ -3,6 +3,7 @@ pub mod Counts
 pub mod Covered
 pub mod Cuts
 pub mod FixedBits
+pub mod Flows
 pub mod Overlaps
 pub mod Tree
 pub mod Verdict

@@ -11,10 +11,12 @@ mod cuts;
 mod error;
 mod fitting;
 mod layout;
+mod leaves;
 mod meeting;
 mod one_width;
 mod overlap;
 mod places;
+mod stepping;
 #[cfg(test)]
 mod tests;
 mod verdict;

@@ -1,0 +1,127 @@
+ghost use Rattle.ddl_bits.specs.FixedBits.{part_bit};
+ghost use Rattle.ddl_bits.specs.Flows.{part_leaves, parts_leaves, cons_leaves, some_differ, IsStep, RunsCons, RunsLeaf, RunsPart, RunsParts};
+ghost use Rattle.ddl_bits.specs.Tree.{part_width, parts_width, ConsSized, PartSized, PartsSized};
+ghost use Rattle.ddl_bits.specs.View.{layout_view, part_view, parts_view};
+ghost use Rattle.std.specs.Prelude.{◌≡◌, ◌+◌, ◌<◌, ◌≤◌, length, not};
+
+use crate::clash::{are_different, part_bit_at};
+use crate::layout::{Layout, LayoutPart};
+use crate::leaves::{part_leaves, parts_leaves};
+use crate::widths::part_bits;
+
+/// A bit that is read: its place, counted from the lowest, what the leaf gives that it is read by, and
+/// what all numbers of a range have there.
+#[derive(Clone, Copy)]
+pub(crate) struct Bit {
+    pub place: u32,
+    pub given: Option<u128>,
+    pub shared: Option<u128>,
+}
+
+/// Whether some two of three bits are given and differ.
+fn some_differ(a: Option<u128>, b: Option<u128>, c: Option<u128>) -> bool
+    ensures { result ≡ some_differ a b c }
+{
+    are_different(a, b) || are_different(a, c) || are_different(b, c)
+}
+
+/// Reads a bit in a part. A leaf is marked while it is read, and from when what stands before it was
+/// `entered`: read to its end. The answer says whether the part itself has now been.
+#[cycle(step)]
+#[tactic(auto, using(crate::proofs::Layers::layers))]
+fn part_step(part: &LayoutPart, low: u32, marks: &mut [bool], bit: Bit, entered: bool) -> bool
+    requires sized { PartSized (part_view part.now) }
+    requires within { low + part_width (part_view part.now) ≤ 128 }
+    requires marked { length marks.old ≡ part_leaves (part_view part.now) }
+    ensures { IsStep (RunsPart (part_view part.now) low) low (part_width (part_view part.now)) bit entered marks.old marks.new result }
+{
+    match part {
+        LayoutPart::Fixed { .. } | LayoutPart::Any { .. } => {
+            leaf_step(part, low, marks, bit, entered)
+        }
+        LayoutPart::Inner { layout, .. } => {
+            layout_step(layout, part_bits(part), low, marks, bit, entered)
+        }
+    }
+}
+
+/// The same of parts that have this width together, each of which stands before the next.
+#[cycle(step)]
+#[tactic(auto, using(crate::proofs::Layers::layers))]
+pub(crate) fn parts_step(
+    parts: &[LayoutPart],
+    width: u32,
+    low: u32,
+    marks: &mut [bool],
+    bit: Bit,
+    entered: bool,
+) -> bool
+    requires sized { PartsSized (parts_view parts.now) }
+    requires has_width { parts_width (parts_view parts.now) ≡ width }
+    requires within { low + width ≤ 128 }
+    requires marked { length marks.old ≡ parts_leaves (parts_view parts.now) }
+    ensures { IsStep (RunsParts (parts_view parts.now) low) low width bit entered marks.old marks.new result }
+{
+    let mut left = width;
+    let mut start = 0;
+    let mut done = entered;
+    for part in parts {
+        left -= part_bits(part);
+        let end = start + part_leaves(part);
+        done = part_step(part, low + left, &mut marks[start..end], bit, done);
+        start = end;
+    }
+    done
+}
+
+/// The same of a layout, which is read by any of its constructors.
+#[cycle(step)]
+#[tactic(auto, using(crate::proofs::Layers::layers))]
+fn layout_step(
+    layout: &Layout,
+    width: u32,
+    low: u32,
+    marks: &mut [bool],
+    bit: Bit,
+    entered: bool,
+) -> bool
+    requires sized { ConsSized (layout_view layout.now) width }
+    requires within { low + width ≤ 128 }
+    requires marked { length marks.old ≡ cons_leaves (layout_view layout.now) }
+    ensures { IsStep (RunsCons (layout_view layout.now) low) low width bit entered marks.old marks.new result }
+{
+    let mut start = 0;
+    let mut done = false;
+    for con in &layout.cons {
+        let end = start + parts_leaves(&con.parts);
+        done |= parts_step(&con.parts, width, low, &mut marks[start..end], bit, entered);
+        start = end;
+    }
+    done
+}
+
+/// The same of a leaf, whose mark is the first.
+fn leaf_step(leaf: &LayoutPart, low: u32, marks: &mut [bool], bit: Bit, entered: bool) -> bool
+    requires sized { PartSized (part_view leaf.now) }
+    requires within { low + part_width (part_view leaf.now) ≤ 128 }
+    requires marked { 1 ≤ length marks.old }
+    ensures { IsStep (RunsLeaf (part_view leaf.now) low) low (part_width (part_view leaf.now)) bit entered marks.old marks.new result }
+{
+    let place = bit.place;
+    let high = low + part_bits(leaf);
+    let goes = marks[0] && low <= place && place < high && goes_on(leaf, place - low, bit);
+    marks[0] = if place == high {
+        entered
+    } else {
+        goes && low < place
+    };
+    goes && low == place
+}
+
+/// Whether a bit that is read may be that of a leaf at a place.
+fn goes_on(leaf: &LayoutPart, place: u32, bit: Bit) -> bool
+    requires { place < 128 }
+    ensures { result ≡ not (some_differ (part_bit (part_view leaf.now) place) bit.given bit.shared) }
+{
+    !some_differ(part_bit_at(leaf, place), bit.given, bit.shared)
+}
