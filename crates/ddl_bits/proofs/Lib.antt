@@ -2,11 +2,11 @@ pub mod BelowSteps
 pub mod Built
 pub mod CountSteps
 pub mod Counting
+pub mod Flowing
 pub mod GivenBits
 pub mod Layers
 pub mod Mixing
 pub mod Pairs
-pub mod Reading
 pub mod Runs
 pub mod Searching
 pub mod Sized

@@ -1,6 +1,6 @@
 -- What a loop over parts or constructors has done to the marks, where one bit is read.
 use Rattle.std.proofs.Common.{◌≡◌, ℕ, ◌+◌, ◌≤◌, ◌⊎◌, Bool, true, false, ◌||◌, List, ◌-◌, ◌++◌, drop, take, length, refl, ap, subst, sym, ◌∙◌, inl, inr, arith}
-use Rattle.std.proofs.Math.Seq.{drop-append_seam}
+use Rattle.std.proofs.Math.Seq.{drop-append_seam, take-append_seam}
 use Rattle.std.proofs.lemmas.List.{length-drop, length-take-le, take-take, drop-drop, drop-take}
 use Rattle.std.proofs.lemmas.Slice.{take-put_mid, take-put_mid_below, drop-put_mid}
 use borrow.Rule.Slice.PartMut.{put_mid}
@@ -58,11 +58,15 @@ length_part marks start end k e inside =
     let count : end - start ≡ k = omega arith in
     ap (λ i. length (take i (drop start marks))) count ∙ length-take-le k (drop start marks) (omega (arith, length-drop start marks))
 
-or_left : (a b : Bool) → a ≡ true → (a || b) ≡ true
+-- marks that were lent whole
+pub written_back : (len : ℕ) (new old : List Bool) → len ≡ length new → take len (new ++ drop (length new) old) ≡ new
+written_back len new old e = ap (λ k. take k (new ++ drop (length new) old)) e ∙ take-append_seam new (drop (length new) old)
+
+pub or_left : (a b : Bool) → a ≡ true → (a || b) ≡ true
 or_left true b h = refl
 or_left false b h = absurd cc
 
-or_right : (a b : Bool) → b ≡ true → (a || b) ≡ true
+pub or_right : (a b : Bool) → b ≡ true → (a || b) ≡ true
 or_right true b h = refl
 or_right false b h = h
 

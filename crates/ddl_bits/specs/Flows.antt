@@ -1,5 +1,6 @@
 -- How a number that is read from its highest bit on goes through the leaves of a constructor: the parts that hold no layout.
 use Rattle.std.specs.Prelude.{◌≡◌, ℕ, ◌+◌, ◌/◌, ◌%◌, ◌^◌, ◌<◌, ◌≤◌, Bool, true, false, ◌||◌, ◌⊎◌, nat_lt, if◌then◌else◌, List, [], ◌∷◌, take, drop, Option, Some, None, slice_index_or, refl}
+use Rattle.ddl_bits.specs.declared.ranges.Range.{Range}
 use Rattle.ddl_bits.specs.declared.stepping.Bit.{Bit}
 use Rattle.ddl_bits.specs.FixedBits.{part_bit, differ}
 use Rattle.ddl_bits.specs.Tree.{Part, fixed, any, inner, Parts, no_parts, part, Cons, no_cons, con, part_width, parts_width}
@@ -66,6 +67,10 @@ HasBit bit n = ((b : ℕ) → bit.given ≡ Some b → n / 2 ^ bit.place % 2 ≡
 abbrev pub IsStep : (List Bool → ℕ → ℕ → Type 0) → ℕ → ℕ → Bit → Bool → List Bool → List Bool → Bool → Type 0
 IsStep runs low width bit entered old new done = (n : ℕ) → HasBit bit n → runs old (bit.place + 1) n → (bit.place ≡ low + width → entered ≡ true) → runs new bit.place n × (bit.place ≡ low → done ≡ true)
 
+-- n runs by all of a constructor: the mark behind those of its leaves stands where it is read to its end
+abbrev pub RunsWhole : Parts → List Bool → ℕ → ℕ → Type 0
+RunsWhole ps marks k n = RunsParts ps 0 (take (parts_leaves ps) marks) k n × (k ≡ 0 → slice_index_or marks (parts_leaves ps) false ≡ true)
+
 -- n has all but its lowest bits as `from` has them
 abbrev pub IsIn : ℕ → ℕ → ℕ → Type 0
 IsIn from bits n = n / 2 ^ bits ≡ from / 2 ^ bits
@@ -77,3 +82,7 @@ shared_bit from bits place = if nat_lt place bits then None else Some (from / 2 
 -- some two of three bits are given and differ
 abbrev pub some_differ : Option ℕ → Option ℕ → Option ℕ → Bool
 some_differ a b c = differ a b || differ a c || differ b c
+
+-- all bits of something that is read are read by ps too: each number of a range that is read so runs on from its highest bit to its lowest
+abbrev pub IsFlow : (ℕ → Type 0) → ℕ → ℕ → Parts → Range → List Bool → List Bool → Type 0
+IsFlow reads low width ps range old new = (n : ℕ) → IsIn range.from range.bits n → reads n → RunsWhole ps old (low + width) n → RunsWhole ps new low n

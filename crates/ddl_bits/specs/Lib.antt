@@ -8,5 +8,4 @@ pub mod Overlaps
 pub mod Tree
 pub mod Verdict
 pub mod View
-pub mod Ways
 pub mod Widths

@@ -11,6 +11,7 @@ use crate::cuts::parts_cut;
 use crate::fitting::parts_fit;
 use crate::layout::LayoutPart;
 use crate::meeting::may_share;
+use std::alloc::Global;
 
 /// What a search for the least number in a range came to.
 #[derive(Clone, Copy)]
@@ -24,7 +25,7 @@ pub(crate) enum Search {
 }
 
 /// The least number that fits both of two lists of parts of this width.
-pub(crate) fn least_common(a: &[LayoutPart], b: &[LayoutPart], width: u32) -> Option<u128>
+pub(crate) fn least_common(alloc: Global, a: &[LayoutPart], b: &[LayoutPart], width: u32) -> Option<u128>
     requires a_accepted { PartsAccepted (parts_view a.now) }
     requires b_accepted { PartsAccepted (parts_view b.now) }
     requires a_width { parts_width (parts_view a.now) ≡ width }
@@ -35,7 +36,7 @@ pub(crate) fn least_common(a: &[LayoutPart], b: &[LayoutPart], width: u32) -> Op
     if are_told_apart(a, b, width) {
         return None;
     }
-    match search_range(a, b, width, 0, width) {
+    match search_range(alloc, a, b, width, 0, width) {
         Search::Number(number) => Some(number),
         Search::NoneHere => None,
         Search::NoneAtAll => None,
@@ -44,7 +45,14 @@ pub(crate) fn least_common(a: &[LayoutPart], b: &[LayoutPart], width: u32) -> Op
 
 /// The least among the numbers that have all but their lowest `bits` as `from` has them. Where both
 /// have numbers there, but none in common, and both are cut there, other upper bits bring none either.
-fn search_range(a: &[LayoutPart], b: &[LayoutPart], width: u32, from: u128, bits: u32) -> Search
+fn search_range(
+    alloc: Global,
+    a: &[LayoutPart],
+    b: &[LayoutPart],
+    width: u32,
+    from: u128,
+    bits: u32,
+) -> Search
     requires a_accepted { PartsAccepted (parts_view a.now) }
     requires b_accepted { PartsAccepted (parts_view b.now) }
     requires a_width { parts_width (parts_view a.now) ≡ width }
@@ -62,14 +70,14 @@ fn search_range(a: &[LayoutPart], b: &[LayoutPart], width: u32, from: u128, bits
         return Search::Number(from);
     }
     let is_cut = both_cut(a, b, width, bits);
-    if !is_cut && !may_share(a, b, width, from, bits) {
+    if !is_cut && !may_share(alloc, a, b, from, bits) {
         return Search::NoneHere;
     }
     let half = bits - 1;
-    match search_range(a, b, width, from, half) {
+    match search_range(alloc, a, b, width, from, half) {
         Search::Number(number) => Search::Number(number),
         Search::NoneAtAll => Search::NoneAtAll,
-        Search::NoneHere => match search_range(a, b, width, from + (1 << half), half) {
+        Search::NoneHere => match search_range(alloc, a, b, width, from + (1 << half), half) {
             Search::Number(number) => Search::Number(number),
             Search::NoneAtAll => Search::NoneAtAll,
             Search::NoneHere => if is_cut {

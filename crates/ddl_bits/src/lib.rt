@@ -10,17 +10,19 @@ mod coverage;
 mod cuts;
 mod error;
 mod fitting;
+mod flow;
 mod layout;
 mod leaves;
+mod marks;
 mod meeting;
 mod one_width;
 mod overlap;
 mod places;
+mod ranges;
 mod stepping;
 #[cfg(test)]
 mod tests;
 mod verdict;
-mod ways;
 mod widths;
 
 pub use checked::{Checked, fits};

@@ -1,66 +1,72 @@
-ghost use Rattle.ddl_bits.specs.Accepted.{PartsAccepted};
+ghost use Rattle.ddl_bits.specs.Flows.{parts_leaves, IsIn, ReadsParts, RunsWhole};
 ghost use Rattle.ddl_bits.specs.Overlaps.{parts_both, IsLeastBetween};
 ghost use Rattle.ddl_bits.specs.Tree.{parts_width, PartsSized};
 ghost use Rattle.ddl_bits.specs.View.{parts_view};
-ghost use Rattle.ddl_bits.specs.Ways.{HasRow, IsIn};
-ghost use Rattle.std.specs.Prelude.{◌≡◌, ℕ, ◌+◌, ◌*◌, ◌≤◌, ◌^◌, true, false};
+ghost use Rattle.std.specs.Prelude.{◌≡◌, ℕ, ◌+◌, ◌*◌, ◌≤◌, ◌^◌, false, length, IfOk};
 
+use crate::flow::parts_flow;
 use crate::layout::LayoutPart;
-use crate::ways::{Range, has_some, narrowed};
+use crate::leaves::parts_leaves;
+use crate::ranges::Range;
+use crate::stepping::{Bit, whole_step};
 use crate::widths::parts_bits;
+use ddl_base::NoMemory;
+use std::alloc::Global;
 
-/// Whether two lists of parts may have a number of a range in common. Where not, they have none: each
-/// number that fits has the bits of some way to read each part, and no two ways go together.
+/// Whether two lists of parts may have a number of a range in common. Where not, they have none. For
+/// want of memory the answer is that they may.
 pub(crate) fn may_share(
+    alloc: Global,
     a: &[LayoutPart],
     b: &[LayoutPart],
-    width: u32,
     from: u128,
     bits: u32,
 ) -> bool
     requires a_sized { PartsSized (parts_view a.now) }
     requires b_sized { PartsSized (parts_view b.now) }
-    requires a_width { parts_width (parts_view a.now) ≡ width }
-    requires b_width { parts_width (parts_view b.now) ≡ width }
-    requires at_most_128 { width ≤ 128 }
+    requires one_width { parts_width (parts_view a.now) ≡ parts_width (parts_view b.now) }
+    requires at_most_128 { parts_width (parts_view b.now) ≤ 128 }
     requires aligned { (p : ℕ) × (from ≡ p * 2 ^ bits) }
     ensures { result ≡ false → IsLeastBetween (parts_both (parts_view a.now) (parts_view b.now)) from (from + 2 ^ bits) None }
 {
-    go_together(a, &[], b, &[], Range { from, bits })
+    match can_be_read_by_both(alloc, a, b, Range { from, bits }) {
+        Ok(can) => can,
+        Err(NoMemory) => true,
+    }
 }
 
-/// Whether ways to read two lists of parts may go together, where some ways are left of the first
-/// part of each. Of two first parts the one that goes down further is narrowed by the other.
-fn go_together(
+/// Whether all bits of `a`, read in `b`, can come to the end of that too.
+fn can_be_read_by_both(
+    alloc: Global,
     a: &[LayoutPart],
-    a_left: &[bool],
     b: &[LayoutPart],
-    b_left: &[bool],
     range: Range,
-) -> bool
+) -> Result<bool, NoMemory>
     requires a_sized { PartsSized (parts_view a.now) }
     requires b_sized { PartsSized (parts_view b.now) }
-    requires a_within { parts_width (parts_view a.now) ≤ 128 }
-    requires b_within { parts_width (parts_view b.now) ≤ 128 }
-    ensures { result ≡ false → (n : ℕ) → IsIn range.from range.bits n → HasRow (parts_view a.now) a_left.now n → HasRow (parts_view b.now) b_left.now n → ⊥ }
+    requires one_width { parts_width (parts_view a.now) ≡ parts_width (parts_view b.now) }
+    requires at_most_128 { parts_width (parts_view b.now) ≤ 128 }
+    ensures { IfOk result (λ can. can ≡ false → (n : ℕ) → IsIn range.from range.bits n → ReadsParts (parts_view a.now) 0 n → ReadsParts (parts_view b.now) 0 n → ⊥) }
 {
-    if a.is_empty() || b.is_empty() {
-        return true;
-    }
-    let a_low = parts_bits(&a[1..]);
-    let b_low = parts_bits(&b[1..]);
-    if a_low <= b_low {
-        let left = narrowed(&a[0], a_low, a_left, &b[0], b_low, b_left, range);
-        if !has_some(&a[0], &left) {
-            return false;
-        }
-        if a_low == b_low {
-            go_together(&a[1..], &[], &b[1..], &[], range)
-        } else {
-            go_together(a, &left, &b[1..], &[], range)
-        }
-    } else {
-        let left = narrowed(&b[0], b_low, b_left, &a[0], a_low, a_left, range);
-        has_some(&b[0], &left) && go_together(&a[1..], &[], b, &left, range)
-    }
+    let mut marks = first_marks(alloc, b)?;
+    parts_flow(alloc, a, 0, b, range, &mut marks)?;
+    Ok(marks[marks.len() - 1])
+}
+
+/// The marks of a constructor before any bit is read.
+fn first_marks(alloc: Global, parts: &[LayoutPart]) -> Result<Vec<bool>, NoMemory>
+    requires sized { PartsSized (parts_view parts.now) }
+    requires within { parts_width (parts_view parts.now) ≤ 128 }
+    ensures size { IfOk result (λ marks. length marks.items ≡ parts_leaves (parts_view parts.now) + 1) }
+    ensures start { IfOk result (λ marks. (n : ℕ) → ReadsParts (parts_view parts.now) 0 n → RunsWhole (parts_view parts.now) marks.items (parts_width (parts_view parts.now)) n) }
+{
+    let size = parts_leaves(parts).checked_add(1).ok_or(NoMemory)?;
+    let mut marks = vec![in alloc; false; size]?;
+    let start = Bit {
+        place: parts_bits(parts),
+        given: None,
+        shared: None,
+    };
+    whole_step(parts, &mut marks, start);
+    Ok(marks)
 }

@@ -6,6 +6,7 @@ ghost use Rattle.std.specs.Prelude.{◌≡◌, ◌<◌, ◌≤◌, length, Match
 
 use crate::common::least_common;
 use crate::layout::LayoutCon;
+use std::alloc::Global;
 
 /// Two constructors, by their places, and the least number that fits both.
 #[derive(Drop)]
@@ -16,13 +17,13 @@ pub(crate) struct Shared {
 }
 
 /// The first pair of constructors that a number fits.
-pub(crate) fn first_overlap(cons: &[LayoutCon], width: u32) -> Option<Shared>
+pub(crate) fn first_overlap(alloc: Global, cons: &[LayoutCon], width: u32) -> Option<Shared>
     requires accepted { ConsAccepted (cons_view cons.now) width }
     requires at_most_128 { width ≤ 128 }
     ensures { MatchOption result (HasNoOverlap (cons_view cons.now)) (λ o. IsFirstOverlap (cons_view cons.now) o.first o.second o.number) }
 {
     for first in 0..cons.len() {
-        if let Some(shared) = overlap_with(cons, width, first) {
+        if let Some(shared) = overlap_with(alloc, cons, width, first) {
             return Some(shared);
         }
     }
@@ -30,14 +31,14 @@ pub(crate) fn first_overlap(cons: &[LayoutCon], width: u32) -> Option<Shared>
 }
 
 /// The first constructor behind this one that has a number in common with it.
-fn overlap_with(cons: &[LayoutCon], width: u32, first: usize) -> Option<Shared>
+fn overlap_with(alloc: Global, cons: &[LayoutCon], width: u32, first: usize) -> Option<Shared>
     requires accepted { ConsAccepted (cons_view cons.now) width }
     requires at_most_128 { width ≤ 128 }
     requires inside { first < length cons.now }
     ensures { MatchOption result (HasNoneWith (cons_view cons.now) first) (λ o. (o.first ≡ first) × IsFirstWith (cons_view cons.now) first o.second o.number) }
 {
     for second in first + 1..cons.len() {
-        if let Some(number) = cons_common(&cons[first], &cons[second], width) {
+        if let Some(number) = cons_common(alloc, &cons[first], &cons[second], width) {
             return Some(Shared {
                 first,
                 second,
@@ -50,7 +51,7 @@ fn overlap_with(cons: &[LayoutCon], width: u32, first: usize) -> Option<Shared>
 
 /// The least number that fits both of two constructors of this width.
 #[tactic(auto, using(crate::proofs::Layers::layers))]
-fn cons_common(a: &LayoutCon, b: &LayoutCon, width: u32) -> Option<u128>
+fn cons_common(alloc: Global, a: &LayoutCon, b: &LayoutCon, width: u32) -> Option<u128>
     requires a_accepted { PartsAccepted (con_view a.now) }
     requires b_accepted { PartsAccepted (con_view b.now) }
     requires a_width { parts_width (con_view a.now) ≡ width }
@@ -58,5 +59,5 @@ fn cons_common(a: &LayoutCon, b: &LayoutCon, width: u32) -> Option<u128>
     requires at_most_128 { width ≤ 128 }
     ensures { IsLeastIfAny (parts_both (con_view a.now) (con_view b.now)) result }
 {
-    least_common(&a.parts, &b.parts, width)
+    least_common(alloc, &a.parts, &b.parts, width)
 }

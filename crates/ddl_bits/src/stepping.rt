@@ -1,13 +1,13 @@
 ghost use Rattle.ddl_bits.specs.FixedBits.{part_bit};
-ghost use Rattle.ddl_bits.specs.Flows.{part_leaves, parts_leaves, cons_leaves, some_differ, IsStep, RunsCons, RunsLeaf, RunsPart, RunsParts};
+ghost use Rattle.ddl_bits.specs.Flows.{part_leaves, parts_leaves, cons_leaves, some_differ, HasBit, IsStep, RunsCons, RunsLeaf, RunsPart, RunsParts, RunsWhole};
 ghost use Rattle.ddl_bits.specs.Tree.{part_width, parts_width, ConsSized, PartSized, PartsSized};
 ghost use Rattle.ddl_bits.specs.View.{layout_view, part_view, parts_view};
-ghost use Rattle.std.specs.Prelude.{◌≡◌, ◌+◌, ◌<◌, ◌≤◌, length, not};
+ghost use Rattle.std.specs.Prelude.{◌≡◌, ℕ, ◌+◌, ◌<◌, ◌≤◌, length, not};
 
 use crate::clash::{are_different, part_bit_at};
 use crate::layout::{Layout, LayoutPart};
 use crate::leaves::{part_leaves, parts_leaves};
-use crate::widths::part_bits;
+use crate::widths::{part_bits, parts_bits};
 
 /// A bit that is read: its place, counted from the lowest, what the leaf gives that it is read by, and
 /// what all numbers of a range have there.
@@ -98,6 +98,26 @@ fn layout_step(
         start = end;
     }
     done
+}
+
+/// The same of all of a constructor. The mark behind those of its leaves is that of its end.
+pub(crate) fn whole_step(parts: &[LayoutPart], marks: &mut [bool], bit: Bit)
+    requires sized { PartsSized (parts_view parts.now) }
+    requires within { parts_width (parts_view parts.now) ≤ 128 }
+    requires marked { length marks.old ≡ parts_leaves (parts_view parts.now) + 1 }
+    ensures { (n : ℕ) → HasBit bit n → RunsWhole (parts_view parts.now) marks.old (bit.place + 1) n → RunsWhole (parts_view parts.now) marks.new bit.place n }
+{
+    let width = parts_bits(parts);
+    let last = marks.len() - 1;
+    let done = parts_step(
+        parts,
+        width,
+        0,
+        &mut marks[..last],
+        bit,
+        bit.place == width,
+    );
+    marks[last] = done;
 }
 
 /// The same of a leaf, whose mark is the first.
