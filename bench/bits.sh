@@ -1,8 +1,7 @@
 #!/bin/sh
 # How the time of check grows where two constructors with inner layouts have no number in common, but no given bits that
-# differ. Free bits before the inner layouts are cut off from them, so that the time grows with a power of their number.
-# Free bits inside of inner layouts that have several constructors stand in each constructor, and the layouts are compared
-# constructor by constructor. Where the choice stands a layout deeper its bits are tried, so that each one more than doubles it.
+# differ. Free bits before the inner layouts are cut off from them. Free bits inside of inner layouts, or of layouts that stand
+# one deeper, are read along both constructors, for each range that is looked at: the time grows with a power of their number.
 . "$(dirname -- "$0")/program.sh"
 : >"$folder/empty"
 idle=$(milliseconds "$program" bits-before "$folder/empty" 1)
@@ -22,4 +21,4 @@ grows() {
 }
 grows bits-before 31 62 124
 grows bits-inside 31 62 124
-grows bits-deeper 8 10 12 14
+grows bits-deeper 31 62 124

@@ -24,6 +24,19 @@ fn any(width: u32) -> LayoutPart
 }
 
 #[tactic(auto, using(ddl_bits::proofs::Layers::layers))]
+fn single(alloc: Global, part: LayoutPart) -> Result<LayoutCon, NoMemory>
+    requires { PartAccepted (part_view part) }
+    ensures { IfOk result (λ c. PartsAccepted (con_view c)) }
+{
+    let mut parts = Vec::new(alloc);
+    parts.push(part)?;
+    Ok(LayoutCon {
+        name: Bytes::of(alloc, b"single")?,
+        parts,
+    })
+}
+
+#[tactic(auto, using(ddl_bits::proofs::Layers::layers))]
 fn pair(alloc: Global, first: LayoutPart, second: LayoutPart) -> Result<LayoutCon, NoMemory>
     requires first { PartAccepted (part_view first) }
     requires second { PartAccepted (part_view second) }
@@ -64,7 +77,7 @@ fn inner(alloc: Global, layout: Layout) -> Result<LayoutPart, NoMemory>
     requires { HasAcceptedParts (layout_view layout) }
     ensures { IfOk result (λ p. PartAccepted (part_view p)) }
 {
-    match check(layout) {
+    match check(alloc, layout) {
         Err(_error) => Err(NoMemory),
         Ok(checked) => {
             if checked.width == 0 {
@@ -113,25 +126,25 @@ pub fn width_of_two(alloc: Global, before: u32, inside: u32) -> Result<u32, NoMe
         pair(alloc, any(before), choice(alloc, inside, 0, 1)?)?,
         pair(alloc, any(before), choice(alloc, inside, 2, 3)?)?,
     )?;
-    Ok(width(layout))
+    Ok(width(alloc, layout))
 }
 
-/// The same, where the choice stands a layout deeper.
+/// The same, where the choice stands a layout deeper, and no bits before it.
 pub fn width_of_two_deeper(alloc: Global, inside: u32) -> Result<u32, NoMemory>
     requires { 1 ≤ inside }
 {
     let layout = either(
         alloc,
-        pair(alloc, any(1), deeper(alloc, inside, 0, 1)?)?,
-        pair(alloc, any(1), deeper(alloc, inside, 2, 3)?)?,
+        single(alloc, deeper(alloc, inside, 0, 1)?)?,
+        single(alloc, deeper(alloc, inside, 2, 3)?)?,
     )?;
-    Ok(width(layout))
+    Ok(width(alloc, layout))
 }
 
-fn width(layout: Layout) -> u32
+fn width(alloc: Global, layout: Layout) -> u32
     requires { HasAcceptedParts (layout_view layout) }
 {
-    match check(layout) {
+    match check(alloc, layout) {
         Err(_error) => 0,
         Ok(checked) => checked.width,
     }

@@ -1,12 +1,11 @@
 -- A number that fits is read by the leaves of a constructor, and runs by it from its highest bit on.
-use Rattle.std.proofs.Common.{◌≡◌, ℕ, ◌+◌, ◌-◌, ◌*◌, ◌/◌, ◌%◌, ◌^◌, ◌<◌, ◌≤◌, ◌⊎◌, Bool, true, false, ◌||◌, ltb, if◌then◌else◌, List, get_or, take, drop, Option, Some, None, refl, ◌∙◌, sym, ap, subst, inl, inr, arith}
+use Rattle.std.proofs.Common.{◌≡◌, ℕ, ◌+◌, ◌-◌, ◌*◌, ◌/◌, ◌%◌, ◌^◌, ◌<◌, ◌≤◌, ◌⊎◌, Bool, true, false, ltb, if◌then◌else◌, List, get_or, take, drop, Some, None, refl, ◌∙◌, sym, ap, inl, inr, arith}
 use Rattle.std.proofs.Math.Nat.{div-div-eq-div-mul}
 use Rattle.std.proofs.lemmas.Bool.{cases_lt, ltb-false}
 use Rattle.std.proofs.lemmas.List.{get_or-take, get_or-drop, get_or_past, length-take}
 use Rattle.std.proofs.lemmas.Nat.{pow_pos, shr_split, mod_below, pow-add, div-mul-add}
 use Rattle.std.proofs.lemmas.Nat.Bits.{bit_at_cat_low, bit_at_cat_high}
-use Rattle.ddl_bits.specs.FixedBits.{part_bit}
-use Rattle.ddl_bits.specs.Flows.{part_leaves, parts_leaves, HasLeaf, ReadsPart, ReadsParts, ReadsCons, RunsPart, RunsParts, RunsCons, RunsWhole, IsIn, shared_bit}
+use Rattle.ddl_bits.specs.Flows.{part_leaves, parts_leaves, ReadsPart, ReadsParts, ReadsCons, RunsPart, RunsParts, RunsCons, RunsWhole, IsIn, shared_bit}
 use Rattle.ddl_bits.specs.Tree.{Part, fixed, any, inner, Parts, no_parts, part, Cons, no_cons, con, cons_width, part_width, parts_width, part_fits, parts_fit, cons_fit, PartSized, PartsSized, ConsSized}
 use Rattle.ddl_bits.proofs.GivenBits.{part_told}
 use Rattle.ddl_bits.proofs.Searching.{first_true, second_true, either_true}

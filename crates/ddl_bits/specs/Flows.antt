@@ -1,5 +1,5 @@
 -- How a number that is read from its highest bit on goes through the leaves of a constructor: the parts that hold no layout.
-use Rattle.std.specs.Prelude.{◌≡◌, ℕ, ◌+◌, ◌/◌, ◌%◌, ◌^◌, ◌<◌, ◌≤◌, Bool, true, false, ◌||◌, ◌⊎◌, nat_lt, if◌then◌else◌, List, [], ◌∷◌, take, drop, Option, Some, None, slice_index_or, refl}
+use Rattle.std.specs.Prelude.{◌≡◌, ℕ, ◌+◌, ◌/◌, ◌%◌, ◌^◌, ◌<◌, ◌≤◌, Bool, true, false, ◌||◌, ◌⊎◌, nat_lt, if◌then◌else◌, List, take, drop, Option, Some, None, slice_index_or}
 use Rattle.ddl_bits.specs.declared.ranges.Range.{Range}
 use Rattle.ddl_bits.specs.declared.stepping.Bit.{Bit}
 use Rattle.ddl_bits.specs.FixedBits.{part_bit, differ}

@@ -25,7 +25,12 @@ pub(crate) enum Search {
 }
 
 /// The least number that fits both of two lists of parts of this width.
-pub(crate) fn least_common(alloc: Global, a: &[LayoutPart], b: &[LayoutPart], width: u32) -> Option<u128>
+pub(crate) fn least_common(
+    alloc: Global,
+    a: &[LayoutPart],
+    b: &[LayoutPart],
+    width: u32,
+) -> Option<u128>
     requires a_accepted { PartsAccepted (parts_view a.now) }
     requires b_accepted { PartsAccepted (parts_view b.now) }
     requires a_width { parts_width (parts_view a.now) ≡ width }

@@ -35,9 +35,7 @@ fn part_flow(
             leaf_flow(part, low, other, range, marks);
             Ok(())
         }
-        LayoutPart::Inner { layout, .. } => {
-            layout_flow(alloc, layout, low, other, range, marks)
-        }
+        LayoutPart::Inner { layout, .. } => { layout_flow(alloc, layout, low, other, range, marks) }
     }
 }
 
@@ -97,13 +95,7 @@ fn layout_flow(
 }
 
 /// The same of a leaf, bit by bit.
-fn leaf_flow(
-    leaf: &LayoutPart,
-    low: u32,
-    other: &[LayoutPart],
-    range: Range,
-    marks: &mut [bool],
-)
+fn leaf_flow(leaf: &LayoutPart, low: u32, other: &[LayoutPart], range: Range, marks: &mut [bool])
     requires within { low + part_width (part_view leaf.now) ≤ 128 }
     requires other_sized { PartsSized (parts_view other.now) }
     requires other_within { parts_width (parts_view other.now) ≤ 128 }

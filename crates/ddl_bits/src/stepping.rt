@@ -109,14 +109,7 @@ pub(crate) fn whole_step(parts: &[LayoutPart], marks: &mut [bool], bit: Bit)
 {
     let width = parts_bits(parts);
     let last = marks.len() - 1;
-    let done = parts_step(
-        parts,
-        width,
-        0,
-        &mut marks[..last],
-        bit,
-        bit.place == width,
-    );
+    let done = parts_step(parts, width, 0, &mut marks[..last], bit, bit.place == width);
     marks[last] = done;
 }
 

@@ -29,7 +29,7 @@ pub(crate) fn inner(alloc: Global, layout: Layout) -> Result<LayoutPart, NoMemor
     requires { HasAcceptedParts (layout_view layout) }
     ensures { IfOk result (λ p. PartAccepted (part_view p)) }
 {
-    match check(layout) {
+    match check(alloc, layout) {
         Err(_error) => Err(NoMemory),
         Ok(checked) => {
             if checked.width == 0 {
@@ -148,10 +148,10 @@ pub(crate) fn any_of_three(
     Ok(Layout { cons })
 }
 
-pub(crate) fn error(layout: Layout) -> Option<BitError>
+pub(crate) fn error(alloc: Global, layout: Layout) -> Option<BitError>
     requires { HasAcceptedParts (layout_view layout) }
 {
-    match check(layout) {
+    match check(alloc, layout) {
         Ok(_checked) => None,
         Err(error) => Some(error),
     }

@@ -51,7 +51,7 @@ fn of_two_numbers(alloc: Global, first: u128, second: u128) -> Result<LayoutPart
 #[test]
 fn a_gap_three_deep_is_found(rt: HostRuntime) -> Result<(), NoMemory> {
     let alloc = rt.alloc();
-    match check(three_deep(alloc, true)?) {
+    match check(alloc, three_deep(alloc, true)?) {
         Err(_error) => panic!(rt; "refused"),
         Ok(whole) => {
             assert_eq!(rt; fits(&whole, 3), Some(0));
@@ -59,7 +59,7 @@ fn a_gap_three_deep_is_found(rt: HostRuntime) -> Result<(), NoMemory> {
             assert_eq!(rt; covered(&whole), Ok(()));
         }
     }
-    match check(three_deep(alloc, false)?) {
+    match check(alloc, three_deep(alloc, false)?) {
         Err(_error) => panic!(rt; "refused"),
         Ok(part) => {
             assert_eq!(rt; fits(&part, 1), Some(0));
@@ -80,21 +80,21 @@ fn inner_layouts_share_a_number_or_none(rt: HostRuntime) -> Result<(), NoMemory>
         two(alloc, given(0, 1), middle(alloc, false)?)?,
         two(alloc, any(1), given(1, 2))?,
     )?;
-    assert_eq!(rt; error(beside), Some(BitError::Overlap(0, 1, 1)));
+    assert_eq!(rt; error(alloc, beside), Some(BitError::Overlap(0, 1, 1)));
     // 1, 2, 5 and 6 fit the one, and 0, 1, 6 and 7 the other
     let shifted = either(
         alloc,
         two(alloc, any(1), of_two_numbers(alloc, 1, 2)?)?,
         two(alloc, of_two_numbers(alloc, 0, 3)?, any(1))?,
     )?;
-    assert_eq!(rt; error(shifted), Some(BitError::Overlap(0, 1, 1)));
+    assert_eq!(rt; error(alloc, shifted), Some(BitError::Overlap(0, 1, 1)));
     // at one place they have no number in common
     let apart = either(
         alloc,
         two(alloc, any(100), of_two_numbers(alloc, 1, 2)?)?,
         two(alloc, any(100), of_two_numbers(alloc, 0, 3)?)?,
     )?;
-    match check(apart) {
+    match check(alloc, apart) {
         Err(_error) => panic!(rt; "refused"),
         Ok(all) => assert_eq!(rt; covered(&all), Ok(())),
     }
@@ -123,25 +123,25 @@ fn wide_inner_layouts_are_told_apart_by_their_lowest_bits(rt: HostRuntime) -> Re
         two(alloc, any(1), wide(alloc, 0, 1)?)?,
         two(alloc, any(1), wide(alloc, 2, 3)?)?,
     )?;
-    assert_eq!(rt; error(apart), None);
+    assert_eq!(rt; error(alloc, apart), None);
     let shared = either(
         alloc,
         two(alloc, any(1), wide(alloc, 1, 2)?)?,
         two(alloc, any(1), wide(alloc, 2, 3)?)?,
     )?;
-    assert_eq!(rt; error(shared), Some(BitError::Overlap(0, 1, 2)));
+    assert_eq!(rt; error(alloc, shared), Some(BitError::Overlap(0, 1, 2)));
     // the one ends a bit before the other: bit 1 is 0 in the one and 1 in the other
     let shifted_apart = either(
         alloc,
         two(alloc, any(1), wide(alloc, 0, 1)?)?,
         two(alloc, wide(alloc, 1, 3)?, any(1))?,
     )?;
-    assert_eq!(rt; error(shifted_apart), None);
+    assert_eq!(rt; error(alloc, shifted_apart), None);
     let shifted = either(
         alloc,
         two(alloc, any(1), wide(alloc, 1, 2)?)?,
         two(alloc, wide(alloc, 1, 2)?, any(1))?,
     )?;
-    assert_eq!(rt; error(shifted), Some(BitError::Overlap(0, 1, 2)));
+    assert_eq!(rt; error(alloc, shifted), Some(BitError::Overlap(0, 1, 2)));
     Ok(())
 }

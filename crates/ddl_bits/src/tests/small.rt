@@ -163,10 +163,10 @@ fn coverage(rows: &[Row], size: u128) -> Result<(), Gap> {
 }
 
 /// Whether `check` and `covered` say of these constructors what the trial says.
-fn is_right(layout: Layout, rows: &[Row], size: u128) -> bool
+fn is_right(alloc: Global, layout: Layout, rows: &[Row], size: u128) -> bool
     requires { HasAcceptedParts (layout_view layout) }
 {
-    match check(layout) {
+    match check(alloc, layout) {
         Err(error) => overlap(rows, size) == Some(error),
         Ok(checked) => { overlap(rows, size) == None && covered(&checked) == coverage(rows, size) }
     }
@@ -186,7 +186,7 @@ fn third_is_right(
             con(alloc, second)?,
             con(alloc, *third)?,
         )?;
-        if !is_right(layout, &[first, second, *third], size) {
+        if !is_right(alloc, layout, &[first, second, *third], size) {
             return Ok(false);
         }
     }
@@ -196,7 +196,7 @@ fn third_is_right(
 fn second_is_right(alloc: Global, all: &[Row], first: Row, size: u128) -> Result<bool, NoMemory> {
     for second in all {
         let layout = either(alloc, con(alloc, first)?, con(alloc, *second)?)?;
-        if !is_right(layout, &[first, *second], size)
+        if !is_right(alloc, layout, &[first, *second], size)
             || !third_is_right(alloc, all, first, *second, size)?
         {
             return Ok(false);
@@ -213,7 +213,9 @@ fn all_are_right(alloc: Global, width: u32) -> Result<bool, NoMemory>
     let size = 1 << width;
     for first in &all {
         let layout = alone(alloc, con(alloc, *first)?)?;
-        if !is_right(layout, &[*first], size) || !second_is_right(alloc, &all, *first, size)? {
+        if !is_right(alloc, layout, &[*first], size)
+            || !second_is_right(alloc, &all, *first, size)?
+        {
             return Ok(false);
         }
     }

@@ -91,28 +91,34 @@ fn of_three_numbers(alloc: Global) -> Result<Layout, NoMemory>
 #[test]
 fn layouts_are_refused_for_their_first_error(rt: HostRuntime) -> Result<(), NoMemory> {
     let alloc = rt.alloc();
-    assert_eq!(rt; error(of_two_widths(alloc)?), Some(BitError::Widths(0, 1)));
-    assert_eq!(rt; error(of_129_bits(alloc)?), Some(BitError::TooWide(0)));
     assert_eq!(rt;
-        error(with_the_least_shared(alloc)?),
+        error(alloc, of_two_widths(alloc)?),
+        Some(BitError::Widths(0, 1))
+    );
+    assert_eq!(rt;
+        error(alloc, of_129_bits(alloc)?),
+        Some(BitError::TooWide(0))
+    );
+    assert_eq!(rt;
+        error(alloc, with_the_least_shared(alloc)?),
         Some(BitError::Overlap(0, 1, 0))
     );
     assert_eq!(rt;
-        error(with_the_greatest_shared(alloc)?),
+        error(alloc, with_the_greatest_shared(alloc)?),
         Some(BitError::Overlap(0, 1, u128::MAX))
     );
     assert_eq!(rt;
-        error(with_six_shared(alloc)?),
+        error(alloc, with_six_shared(alloc)?),
         Some(BitError::Overlap(0, 1, 6))
     );
-    assert_eq!(rt; error(told_apart_by_the_last_bit(alloc)?), None);
+    assert_eq!(rt; error(alloc, told_apart_by_the_last_bit(alloc)?), None);
     Ok(())
 }
 
 #[test]
 fn numbers_fit_or_are_left_out(rt: HostRuntime) -> Result<(), NoMemory> {
     let alloc = rt.alloc();
-    match check(without_three(alloc)?) {
+    match check(alloc, without_three(alloc)?) {
         Err(_) => panic!(rt; "refused"),
         Ok(pair) => {
             assert_eq!(rt; fits(&pair, 1), Some(0));
@@ -121,7 +127,7 @@ fn numbers_fit_or_are_left_out(rt: HostRuntime) -> Result<(), NoMemory> {
             assert_eq!(rt; covered(&pair), Err(Gap::Number(3)));
         }
     }
-    match check(told_apart_by_the_last_bit(alloc)?) {
+    match check(alloc, told_apart_by_the_last_bit(alloc)?) {
         Err(_) => panic!(rt; "refused"),
         Ok(whole) => {
             assert_eq!(rt; fits(&whole, u128::MAX), Some(1));
@@ -133,7 +139,7 @@ fn numbers_fit_or_are_left_out(rt: HostRuntime) -> Result<(), NoMemory> {
 
 #[test]
 fn the_least_number_left_out_is_found(rt: HostRuntime) -> Result<(), NoMemory> {
-    match check(of_three_numbers(rt.alloc())?) {
+    match check(rt.alloc(), of_three_numbers(rt.alloc())?) {
         Err(_error) => panic!(rt; "refused"),
         Ok(three) => {
             assert_eq!(rt; fits(&three, 2), Some(2));
@@ -148,7 +154,7 @@ fn the_least_number_left_out_is_found(rt: HostRuntime) -> Result<(), NoMemory> {
 #[test]
 fn flags_are_told_apart_one_by_one(rt: HostRuntime) -> Result<(), NoMemory> {
     let alloc = rt.alloc();
-    match check(either(alloc, flags(alloc, 0)?, flags(alloc, 1)?)?) {
+    match check(alloc, either(alloc, flags(alloc, 0)?, flags(alloc, 1)?)?) {
         Err(_error) => panic!(rt; "refused"),
         Ok(pair) => {
             assert_eq!(rt; fits(&pair, 0x5555_5555_5555_5555), Some(0));
@@ -158,7 +164,7 @@ fn flags_are_told_apart_one_by_one(rt: HostRuntime) -> Result<(), NoMemory> {
     }
     let with_any = either(alloc, one(alloc, any(64))?, flags(alloc, 1)?)?;
     assert_eq!(rt;
-        error(with_any),
+        error(alloc, with_any),
         Some(BitError::Overlap(0, 1, 0xaaaa_aaaa_aaaa_aaaa))
     );
     Ok(())

@@ -1,10 +1,10 @@
-use Rattle.std.proofs.Common.{◌≡◌, ℕ, ◌+◌, ◌-◌, ◌||◌, false, List, Bool, get_or, length, drop, inl, inr, ap, subst, sym, ◌∙◌, arith, rules, tests}
+use Rattle.std.proofs.Common.{◌≡◌, ℕ, ◌+◌, ◌-◌, false, List, Bool, get_or, length, inl, inr, ap, subst, sym, ◌∙◌, arith, rules, tests}
 use Rattle.std.proofs.lemmas.Grind.{common_steps}
 use Rattle.std.proofs.lemmas.List.{get_or_read}
 use Rattle.ddl_bits.specs.declared.layout.Layout.{the_lemmas}
 use Rattle.ddl_bits.specs.Flows.{ReadsCons, ReadsPart, ReadsParts, RunsWhole}
 use Rattle.ddl_bits.specs.Tree.{Cons, Parts, cons_width, part_width, parts_width, PartsSized}
-use Rattle.ddl_bits.specs.View.{con_view, layout_view, part_view, parts_view}
+use Rattle.ddl_bits.specs.View.{layout_view, part_view, parts_view}
 use Rattle.ddl_bits.proofs.Flowing.{whole_more}
 use Rattle.ddl_bits.proofs.Layers.{con_view_out}
 use Rattle.ddl_bits.proofs.Runs.{or_left, or_right, written_back}

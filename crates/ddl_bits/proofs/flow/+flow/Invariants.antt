@@ -1,5 +1,5 @@
-use Rattle.std.proofs.Common.{◌≡◌, ℕ, ◌+◌, ◌≤◌, ◌⊎◌, drop, length}
-use Rattle.ddl_bits.specs.Flows.{parts_leaves, IsIn, ReadsCons, ReadsParts, RunsWhole}
+use Rattle.std.proofs.Common.{◌≡◌, ℕ, ◌+◌, ◌≤◌, ◌⊎◌, drop}
+use Rattle.ddl_bits.specs.Flows.{IsIn, ReadsCons, ReadsParts, RunsWhole}
 use Rattle.ddl_bits.specs.Tree.{cons_width, parts_width, ConsSized, PartsSized}
 use Rattle.ddl_bits.specs.View.{cons_view, layout_view, parts_view}
 use Rattle.ddl_bits.proofs.flow.+flow.Given as goal

@@ -1,5 +1,5 @@
-use Rattle.std.proofs.Common.{◌≡◌, ℕ, ◌+◌, ◌≤◌, ◌⊎◌, Bool, true, List, drop, take, length}
-use Rattle.ddl_bits.specs.Flows.{cons_leaves, parts_leaves, HasBit, RunsCons, RunsParts}
+use Rattle.std.proofs.Common.{◌≡◌, ◌+◌, ◌≤◌, drop, length}
+use Rattle.ddl_bits.specs.Flows.{cons_leaves, parts_leaves}
 use Rattle.ddl_bits.specs.Tree.{parts_width, ConsSized, PartsSized}
 use Rattle.ddl_bits.specs.View.{cons_view, layout_view, parts_view}
 use Rattle.ddl_bits.proofs.Runs.{PartsSteps, ConsSteps}
