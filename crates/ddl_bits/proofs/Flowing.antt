@@ -1,7 +1,7 @@
 -- A number that fits is read by the leaves of a constructor, and runs by it from its highest bit on.
-use Rattle.std.proofs.Common.{◌≡◌, ℕ, ◌+◌, ◌-◌, ◌*◌, ◌/◌, ◌%◌, ◌^◌, ◌<◌, ◌≤◌, ◌⊎◌, Bool, true, false, ltb, if◌then◌else◌, List, get_or, take, drop, Some, None, refl, ◌∙◌, sym, ap, inl, inr, arith}
+use Rattle.std.proofs.Common.{◌≡◌, ℕ, ◌+◌, ◌-◌, ◌*◌, ◌/◌, ◌%◌, ◌^◌, ◌<◌, ◌≤◌, ◌⊎◌, Bool, true, false, eqb, ltb, if◌then◌else◌, List, get_or, take, drop, Some, None, refl, ◌∙◌, sym, ap, inl, inr, arith}
 use Rattle.std.proofs.Math.Nat.{div-div-eq-div-mul}
-use Rattle.std.proofs.lemmas.Bool.{cases_lt, ltb-false}
+use Rattle.std.proofs.lemmas.Bool.{cases_lt, eqb-true, ltb-false}
 use Rattle.std.proofs.lemmas.List.{get_or-take, get_or-drop, get_or_past, length-take}
 use Rattle.std.proofs.lemmas.Nat.{pow_pos, shr_split, mod_below, pow-add, div-mul-add}
 use Rattle.std.proofs.lemmas.Nat.Bits.{bit_at_cat_low, bit_at_cat_high}
@@ -18,8 +18,8 @@ bit_high q w r place low =
 -- a number is read by what some of its bits fit
 mutual
   part_read : (p : Part) → PartSized p → (low n q : ℕ) → ((place : ℕ) → place < part_width p → n / 2 ^ (low + place) % 2 ≡ q / 2 ^ place % 2) → part_fits p q ≡ true → ReadsPart p low n
-  part_read (fixed bits width) sized low n q same fits = λ place b inside given. same place inside ∙ part_told (fixed bits width) place q b given fits
-  part_read (any width) sized low n q same fits = λ place b inside given. same place inside ∙ part_told (any width) place q b given fits
+  part_read (fixed bits width) sized low n q same fits = record { possible = sym (ap (λ m. ltb m (2 ^ width)) (eqb-true q bits (first_true (eqb q bits) (ltb q (2 ^ width)) fits))) ∙ second_true (eqb q bits) (ltb q (2 ^ width)) fits; bits = λ place b inside given. same place inside ∙ part_told (fixed bits width) place q b given fits }
+  part_read (any width) sized low n q same fits = record { possible = refl; bits = λ place b inside given. same place inside ∙ part_told (any width) place q b given fits }
   part_read (inner cons) sized low n q same fits = cons_read cons (cons_width cons) sized.1 low n q same fits
 
   parts_read : (ps : Parts) → PartsSized ps → (low n r : ℕ) → ((place : ℕ) → place < parts_width ps → n / 2 ^ (low + place) % 2 ≡ r / 2 ^ place % 2) → parts_fit ps r ≡ true → ReadsParts ps low n

@@ -1,11 +1,11 @@
 -- What a loop over parts or constructors has done to the marks, where one bit is read.
-use Rattle.std.proofs.Common.{◌≡◌, ℕ, ◌+◌, ◌≤◌, ◌⊎◌, Bool, true, false, ◌||◌, List, ◌-◌, ◌++◌, drop, take, length, refl, ap, subst, sym, ◌∙◌, inl, inr, arith}
+use Rattle.std.proofs.Common.{◌≡◌, ◌≢◌, ℕ, ◌+◌, ◌-◌, ◌<◌, ◌≤◌, ◌⊎◌, Bool, true, false, ◌||◌, List, ◌++◌, get_or, drop, take, length, refl, ap, subst, sym, ◌∙◌, inl, inr, arith}
 use Rattle.std.proofs.Math.Seq.{drop-append_seam, take-append_seam}
 use Rattle.std.proofs.lemmas.List.{length-drop, length-take-le, take-take, drop-drop, drop-take}
 use Rattle.std.proofs.lemmas.Slice.{take-put_mid, take-put_mid_below, drop-put_mid}
 use borrow.Rule.Slice.PartMut.{put_mid}
 use Rattle.ddl_bits.specs.declared.stepping.Bit.{Bit}
-use Rattle.ddl_bits.specs.Flows.{part_leaves, parts_leaves, HasBit, IsStep, RunsCons, RunsPart, RunsParts}
+use Rattle.ddl_bits.specs.Flows.{part_leaves, parts_leaves, HasBit, IsStep, RunsCons, RunsLeaf, RunsPart, RunsParts}
 use Rattle.ddl_bits.specs.Tree.{Part, Parts, part, Cons, con, part_width, parts_width}
 
 -- what is still to be said of a number that ran with the old marks: the marks before `start` are done
@@ -69,6 +69,14 @@ or_left false b h = absurd cc
 pub or_right : (a b : Bool) → b ≡ true → (a || b) ≡ true
 or_right true b h = refl
 or_right false b h = h
+
+-- a leaf that is not gone on with runs on, since none of its bits is being read
+pub leaf_left : (p : Part) (low place : ℕ) (marks new : List Bool) (n : ℕ) (goes : Bool) → 1 ≤ part_width p → RunsLeaf p low marks (place + 1) n → place ≢ low + part_width p → (get_or marks 0 false ≡ true → low ≤ place → place < low + part_width p → goes ≡ true) → goes ≡ false → RunsLeaf p low new place n × (place ≡ low → goes ≡ true)
+leaf_left p low place marks new n goes some runs past goes_on none =
+    let not_inside : low ≤ place → place < low + part_width p → ⊥ = λ over under.
+    let no : false ≡ true = sym none ∙ goes_on (runs.1 (omega arith) (omega arith)) over under in
+    cc in
+    ((runs.0, λ over under. absurd (not_inside (omega arith) (omega arith))), λ at. absurd (not_inside (omega arith) (omega arith)))
 
 -- one part more
 pub part_stepped : (all : Parts) (p : Part) (rest : Parts) (low width left start end count : ℕ) (bit : Bit) (entered done here : Bool) (old marks new : List Bool) → end ≡ start + part_leaves p → count ≡ part_leaves p → length new ≡ part_leaves p → end ≤ length marks → left ≡ part_width p + parts_width rest → PartsSteps all (part p rest) low width bit entered old marks start left done → IsStep (RunsPart p (low + parts_width rest)) (low + parts_width rest) (part_width p) bit done (take count (drop start marks)) new here → PartsSteps all rest low width bit entered old (put_mid start count marks new) end (parts_width rest) here

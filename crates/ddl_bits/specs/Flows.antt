@@ -1,5 +1,5 @@
 -- How a number that is read from its highest bit on goes through the leaves of a constructor: the parts that hold no layout.
-use Rattle.std.specs.Prelude.{◌≡◌, ℕ, ◌+◌, ◌/◌, ◌%◌, ◌^◌, ◌<◌, ◌≤◌, Bool, true, false, ◌||◌, ◌⊎◌, nat_lt, if◌then◌else◌, List, take, drop, Option, Some, None, slice_index_or}
+use Rattle.std.specs.Prelude.{◌≡◌, ℕ, ◌+◌, ◌/◌, ◌%◌, ◌^◌, ◌<◌, ◌≤◌, Bool, true, false, ◌||◌, ◌⊎◌, nat_lt, if◌then◌else◌, List, take, drop, Option, Some, None, slice_index_or, refl}
 use Rattle.ddl_bits.specs.declared.ranges.Range.{Range}
 use Rattle.ddl_bits.specs.declared.stepping.Bit.{Bit}
 use Rattle.ddl_bits.specs.FixedBits.{part_bit, differ}
@@ -20,9 +20,16 @@ abbrev mutual
   cons_leaves no_cons = 0
   cons_leaves (con ps cons) = parts_leaves ps + cons_leaves cons
 
+-- given bits are below 2 ^ width: else no number fits them
+abbrev pub is_possible : Part → Bool
+is_possible (fixed bits width) = nat_lt bits (2 ^ width)
+is_possible (any width) = true
+is_possible (inner cons) = true
+
 -- n has the bits that a leaf gives, with so many bits below the leaf
-abbrev pub HasLeaf : Part → ℕ → ℕ → Type 0
-HasLeaf p low n = (place b : ℕ) → place < part_width p → part_bit p place ≡ Some b → n / 2 ^ (low + place) % 2 ≡ b
+pub record HasLeaf (p : Part) (low n : ℕ) : Type 0 where
+  pub possible : is_possible p ≡ true
+  pub bits : (place b : ℕ) → place < part_width p → part_bit p place ≡ Some b → n / 2 ^ (low + place) % 2 ≡ b
 
 -- n is read as this part, with so many bits below it: it has the bits of its leaves, and of one constructor of an inner layout
 abbrev mutual
@@ -86,3 +93,17 @@ some_differ a b c = differ a b || differ a c || differ b c
 -- all bits of something that is read are read by ps too: each number of a range that is read so runs on from its highest bit to its lowest
 abbrev pub IsFlow : (ℕ → Type 0) → ℕ → ℕ → Parts → Range → List Bool → List Bool → Type 0
 IsFlow reads low width ps range old new = (n : ℕ) → IsIn range.from range.bits n → reads n → RunsWhole ps old (low + width) n → RunsWhole ps new low n
+
+-- ---- worked
+
+-- { a = { 0b0, _ : uint 1 }; b = 0b11 } has three leaves
+three_leaves : part_leaves (inner (con (part (fixed 0 1) (part (any 1) no_parts)) (con (part (fixed 3 2) no_parts) no_cons))) ≡ 3
+three_leaves = refl
+
+-- bits that are 2 ^ width or more fit no number
+too_many_bits : (is_possible (fixed 3 2) ≡ true) × (is_possible (fixed 4 2) ≡ false)
+too_many_bits = (refl, refl)
+
+-- all numbers from 4 to 7 have bit 2, and differ in bit 1
+upper_bits : (shared_bit 4 2 2 ≡ Some 1) × (shared_bit 4 2 1 ≡ None)
+upper_bits = (refl, refl)

@@ -7,7 +7,7 @@ use crate::clash::part_bit_at;
 use crate::layout::{Layout, LayoutPart};
 use crate::marks::{add_marks, copied};
 use crate::ranges::{Range, shared_bit};
-use crate::stepping::{Bit, whole_step};
+use crate::stepping::{Bit, is_possible, whole_step};
 use crate::widths::{part_bits, parts_bits};
 use ddl_base::NoMemory;
 use std::alloc::Global;
@@ -102,6 +102,10 @@ fn leaf_flow(leaf: &LayoutPart, low: u32, other: &[LayoutPart], range: Range, ma
     requires marked { length marks.old ≡ parts_leaves (parts_view other.now) + 1 }
     ensures { IsFlow (HasLeaf (part_view leaf.now) low) low (part_width (part_view leaf.now)) (parts_view other.now) range marks.old marks.new }
 {
+    if !is_possible(leaf) {
+        marks.fill(false);
+        return;
+    }
     for place in (0..part_bits(leaf)).rev() {
         let bit = Bit {
             place: low + place,

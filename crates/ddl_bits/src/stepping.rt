@@ -1,10 +1,10 @@
-ghost use Rattle.ddl_bits.specs.FixedBits.{part_bit};
-ghost use Rattle.ddl_bits.specs.Flows.{part_leaves, parts_leaves, cons_leaves, some_differ, HasBit, IsStep, RunsCons, RunsLeaf, RunsPart, RunsParts, RunsWhole};
+ghost use Rattle.ddl_bits.specs.Flows.{cons_leaves, is_possible, part_leaves, parts_leaves, some_differ, HasBit, HasLeaf, IsStep, RunsCons, RunsLeaf, RunsPart, RunsParts, RunsWhole};
 ghost use Rattle.ddl_bits.specs.Tree.{part_width, parts_width, ConsSized, PartSized, PartsSized};
 ghost use Rattle.ddl_bits.specs.View.{layout_view, part_view, parts_view};
-ghost use Rattle.std.specs.Prelude.{◌≡◌, ℕ, ◌+◌, ◌<◌, ◌≤◌, length, not};
+ghost use Rattle.std.specs.Prelude.{◌≡◌, ℕ, ◌+◌, ◌<◌, ◌≤◌, true, length};
 
 use crate::clash::{are_different, part_bit_at};
+use crate::fitting::is_below_power;
 use crate::layout::{Layout, LayoutPart};
 use crate::leaves::{part_leaves, parts_leaves};
 use crate::widths::{part_bits, parts_bits};
@@ -114,27 +114,41 @@ pub(crate) fn whole_step(parts: &[LayoutPart], marks: &mut [bool], bit: Bit)
 }
 
 /// The same of a leaf, whose mark is the first.
+#[tactic(auto, using(crate::proofs::Steps::has_a_bit))]
 fn leaf_step(leaf: &LayoutPart, low: u32, marks: &mut [bool], bit: Bit, entered: bool) -> bool
     requires sized { PartSized (part_view leaf.now) }
     requires within { low + part_width (part_view leaf.now) ≤ 128 }
     requires marked { 1 ≤ length marks.old }
     ensures { IsStep (RunsLeaf (part_view leaf.now) low) low (part_width (part_view leaf.now)) bit entered marks.old marks.new result }
 {
-    let place = bit.place;
-    let high = low + part_bits(leaf);
-    let goes = marks[0] && low <= place && place < high && goes_on(leaf, place - low, bit);
-    marks[0] = if place == high {
-        entered
-    } else {
-        goes && low < place
-    };
-    goes && low == place
+    if bit.place == low + part_bits(leaf) {
+        marks[0] = entered;
+        return false;
+    }
+    let goes = marks[0] && goes_on(leaf, low, bit);
+    marks[0] = goes && low < bit.place;
+    goes && low == bit.place
 }
 
-/// Whether a bit that is read may be that of a leaf at a place.
-fn goes_on(leaf: &LayoutPart, place: u32, bit: Bit) -> bool
-    requires { place < 128 }
-    ensures { result ≡ not (some_differ (part_bit (part_view leaf.now) place) bit.given bit.shared) }
+/// Whether a bit that is read may be one of a leaf.
+fn goes_on(leaf: &LayoutPart, low: u32, bit: Bit) -> bool
+    requires { low + part_width (part_view leaf.now) ≤ 128 }
+    ensures { (n : ℕ) → HasBit bit n → HasLeaf (part_view leaf.now) low n → low ≤ bit.place → bit.place < low + part_width (part_view leaf.now) → result ≡ true }
 {
-    !some_differ(part_bit_at(leaf, place), bit.given, bit.shared)
+    let is_inside = low <= bit.place && bit.place < low + part_bits(leaf);
+    is_inside
+        && is_possible(leaf)
+        && !some_differ(part_bit_at(leaf, bit.place - low), bit.given, bit.shared)
+}
+
+/// Whether some number fits a leaf: given bits may be too many for their width.
+#[tactic(auto, using(crate::proofs::Layers::layers))]
+pub(crate) fn is_possible(leaf: &LayoutPart) -> bool
+    requires { part_width (part_view leaf.now) ≤ 128 }
+    ensures { result ≡ is_possible (part_view leaf.now) }
+{
+    match leaf {
+        LayoutPart::Fixed { bits, width } => is_below_power(*bits, *width),
+        LayoutPart::Any { .. } | LayoutPart::Inner { .. } => true,
+    }
 }

@@ -76,6 +76,19 @@ fn choices_two_deep_behind_free_bits_are_compared(rt: HostRuntime) -> Result<(),
     Ok(())
 }
 
+#[test]
+fn bits_of_no_number_are_left_out_of_choices(rt: HostRuntime) -> Result<(), NoMemory> {
+    let alloc = rt.alloc();
+    // 5 is no number of two bits, and neither is 6, so that the ends are 0 and 1
+    let apart = either(
+        alloc,
+        one(alloc, two_deep(alloc, 0, 5)?)?,
+        one(alloc, two_deep(alloc, 1, 6)?)?,
+    )?;
+    assert_eq!(rt; error(alloc, apart), None);
+    Ok(())
+}
+
 // { 0b00, m : FIRST } or { 0b01, m : SECOND }
 fn led_on(alloc: Global, first: LayoutPart, second: LayoutPart) -> Result<LayoutPart, NoMemory>
     requires first { PartAccepted (part_view first) }
