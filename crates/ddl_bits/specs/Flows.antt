@@ -46,7 +46,7 @@ abbrev mutual
   ReadsCons no_cons low n = ⊥
   ReadsCons (con ps cons) low n = ReadsParts ps low n ⊎ ReadsCons cons low n
 
--- n has the bits of a leaf, and the first mark stands where some of these, but not those of a leaf before it, are to be read when k bits are left
+-- n has the bits of a leaf; and where k bits are left to read, some of them of this leaf and all that stand before it read, the first mark stands
 abbrev pub RunsLeaf : Part → ℕ → List Bool → ℕ → ℕ → Type 0
 RunsLeaf p low marks k n = HasLeaf p low n × (low < k → k ≤ low + part_width p → slice_index_or marks 0 false ≡ true)
 
@@ -69,8 +69,8 @@ abbrev mutual
 abbrev pub HasBit : Bit → ℕ → Type 0
 HasBit bit n = ((b : ℕ) → bit.given ≡ Some b → n / 2 ^ bit.place % 2 ≡ b) × ((b : ℕ) → bit.shared ≡ Some b → n / 2 ^ bit.place % 2 ≡ b)
 
--- one bit is read: each number that has it, and runs with the old marks, runs with the new ones a bit further, where what stands
--- before was read to its end, and is read to its own end where no bit is left
+-- one bit is read: each number that has it, and ran with the old marks, runs with the new ones a bit further. Where this begins there,
+-- `entered` is to hold; where it ends there, `done` does
 abbrev pub IsStep : (List Bool → ℕ → ℕ → Type 0) → ℕ → ℕ → Bit → Bool → List Bool → List Bool → Bool → Type 0
 IsStep runs low width bit entered old new done = (n : ℕ) → HasBit bit n → runs old (bit.place + 1) n → (bit.place ≡ low + width → entered ≡ true) → runs new bit.place n × (bit.place ≡ low → done ≡ true)
 
@@ -90,7 +90,7 @@ shared_bit from bits place = if nat_lt place bits then None else Some (from / 2 
 abbrev pub some_differ : Option ℕ → Option ℕ → Option ℕ → Bool
 some_differ a b c = differ a b || differ a c || differ b c
 
--- all bits of something that is read are read by ps too: each number of a range that is read so runs on from its highest bit to its lowest
+-- all bits of something are read: each number of a range that it reads, and that ran by ps above it with the old marks, runs below it with the new ones
 abbrev pub IsFlow : (ℕ → Type 0) → ℕ → ℕ → Parts → Range → List Bool → List Bool → Type 0
 IsFlow reads low width ps range old new = (n : ℕ) → IsIn range.from range.bits n → reads n → RunsWhole ps old (low + width) n → RunsWhole ps new low n
 
