@@ -1,5 +1,5 @@
 #!/bin/sh
-# How the time of check grows where two constructors with inner layouts have no number in common, but no given bits that
+# How the time of a hundred checks grows where two constructors with inner layouts have no number in common, but no given bits that
 # differ. Free bits before the inner layouts are cut off from them. Free bits inside of inner layouts, or of layouts that stand
 # one deeper, are read along both constructors, for each range that is looked at: the time grows with a power of their number.
 . "$(dirname -- "$0")/program.sh"

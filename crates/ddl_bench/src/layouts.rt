@@ -115,30 +115,53 @@ fn deeper(alloc: Global, free: u32, first: u128, second: u128) -> Result<LayoutP
     inner(alloc, layout)
 }
 
-/// Checks two constructors that no number fits both, since the bits at their end differ: free bits,
-/// and a choice behind `inside` free bits of its own. The width that both have, or 0.
-pub fn width_of_two(alloc: Global, before: u32, inside: u32) -> Result<u32, NoMemory>
+/// Two constructors that no number fits both, since the bits at their end differ: free bits, and a choice
+/// behind `inside` free bits of its own.
+fn two(alloc: Global, before: u32, inside: u32) -> Result<Layout, NoMemory>
     requires before { 1 ≤ before }
     requires inside { 1 ≤ inside }
+    ensures { IfOk result (λ l. HasAcceptedParts (layout_view l)) }
 {
-    let layout = either(
+    either(
         alloc,
         pair(alloc, any(before), choice(alloc, inside, 0, 1)?)?,
         pair(alloc, any(before), choice(alloc, inside, 2, 3)?)?,
-    )?;
-    Ok(width(alloc, layout))
+    )
 }
 
 /// The same, where the choice stands a layout deeper, and no bits before it.
-pub fn width_of_two_deeper(alloc: Global, inside: u32) -> Result<u32, NoMemory>
+fn two_deeper(alloc: Global, inside: u32) -> Result<Layout, NoMemory>
     requires { 1 ≤ inside }
+    ensures { IfOk result (λ l. HasAcceptedParts (layout_view l)) }
 {
-    let layout = either(
+    either(
         alloc,
         single(alloc, deeper(alloc, inside, 0, 1)?)?,
         single(alloc, deeper(alloc, inside, 2, 3)?)?,
-    )?;
-    Ok(width(alloc, layout))
+    )
+}
+
+/// Builds and checks such two constructors so often. The width that both have, or 0.
+pub fn width_of_two(alloc: Global, times: u32, before: u32, inside: u32) -> Result<u32, NoMemory>
+    requires before { 1 ≤ before }
+    requires inside { 1 ≤ inside }
+{
+    let mut found = 0;
+    for _time in 0..times {
+        found = width(alloc, two(alloc, before, inside)?);
+    }
+    Ok(found)
+}
+
+/// The same of two in which the choice stands a layout deeper.
+pub fn width_of_two_deeper(alloc: Global, times: u32, inside: u32) -> Result<u32, NoMemory>
+    requires { 1 ≤ inside }
+{
+    let mut found = 0;
+    for _time in 0..times {
+        found = width(alloc, two_deeper(alloc, inside)?);
+    }
+    Ok(found)
 }
 
 fn width(alloc: Global, layout: Layout) -> u32

@@ -26,12 +26,15 @@ fn solved(alloc: Global, towers: Towers, link: Link, order: Order, height: u32) 
     }
 }
 
+/// How often a layout is checked, since once takes less time than a program needs to start.
+const CHECKS: u32 = 100;
+
 /// The width of a layout with so many free bits before its choices or inside of them.
 fn checked(alloc: Global, before: u32, inside: u32) -> io::Result<u32> {
     if before == 0 || inside == 0 {
         return Err(Error::from(ErrorKind::InvalidInput));
     }
-    match layouts::width_of_two(alloc, before, inside) {
+    match layouts::width_of_two(alloc, CHECKS, before, inside) {
         Ok(width) => Ok(width),
         Err(_) => Err(Error::from(ErrorKind::OutOfMemory)),
     }
@@ -42,7 +45,7 @@ fn checked_deeper(alloc: Global, inside: u32) -> io::Result<u32> {
     if inside == 0 {
         return Err(Error::from(ErrorKind::InvalidInput));
     }
-    match layouts::width_of_two_deeper(alloc, inside) {
+    match layouts::width_of_two_deeper(alloc, CHECKS, inside) {
         Ok(width) => Ok(width),
         Err(_) => Err(Error::from(ErrorKind::OutOfMemory)),
     }
