@@ -1,6 +1,5 @@
 -- What the next argument has to be.
-use Rattle.std.proofs.Common.{◌≡◌, ℕ, zero, suc, ◌<◌, ◌≤◌, List, [], ◌∷◌, length, map, drop, get_or, refl, ap, sym, ◌∙◌, arith}
-use Rattle.std.proofs.lemmas.List.{length-map, get_or-map}
+use Rattle.std.proofs.Common.{◌≡◌, ℕ, zero, suc, ◌<◌, ◌≤◌, List, [], ◌∷◌, length, map, drop, get_or, refl, ap, sym, arith}
 use Rattle.ddl_tree.specs.declared.decl.Param.{Param}
 use Rattle.ddl_tree.specs.ViewModule.{param_view}
 use Rattle.ddl_names.specs.declared.want.Want.{Want}

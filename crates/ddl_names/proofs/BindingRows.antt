@@ -13,7 +13,7 @@ use Rattle.ddl_names.specs.declared.builtin.BuiltIn.TheVariants as b
 use Rattle.ddl_names.specs.declared.error.NameError.TheVariants as e
 use Rattle.ddl_names.specs.declared.resolved.Use.{Use}
 use Rattle.ddl_names.specs.Bindings.{Loaded}
-use Rattle.ddl_names.specs.Modules.{refusal, uses_in}
+use Rattle.ddl_names.specs.Modules.{refusal, uses_in, uses_of_each}
 use Rattle.ddl_names.proofs.RowForms.{alone, at, block, byte, def_grammar, def_main, def_value, digit, field_x, let_x, lower, main, module_of, name, nowhere, one_name, plain, pure, upper}
 
 abbrev use_at : ℕ → ℕ → Bound → Use
@@ -52,6 +52,10 @@ own_is_allowed = refl
 
 own_before_imports : uses_in own ≡ use_at 29 30 (Decl 1) ∷ use_at 8 11 (BuiltIn b.End) ∷ use_at 8 11 (BuiltIn b.End) ∷ use_at 8 11 (BuiltIn b.End) ∷ []
 own_before_imports = refl
+
+-- each of its four declarations has one use
+own_by_declaration : uses_of_each own ≡ (use_at 29 30 (Decl 1) ∷ []) ∷ (use_at 8 11 (BuiltIn b.End) ∷ []) ∷ (use_at 8 11 (BuiltIn b.End) ∷ []) ∷ (use_at 8 11 (BuiltIn b.End) ∷ []) ∷ []
+own_by_declaration = refl
 
 -- one module that is imported twice is one import; it stands before the prelude, whose F has number 0
 abbrev again : List Loaded

@@ -13,7 +13,7 @@ use Rattle.ddl_tree.specs.ModuleTree as mo
 use Rattle.ddl_tree.specs.ViewModule.{con_view, decl_view, param_view, part_view}
 use Rattle.ddl_names.specs.declared.error.NameError.TheVariants as e
 use Rattle.ddl_names.specs.Bindings.{Site}
-use Rattle.ddl_names.specs.Findings.{Finding, again, demand}
+use Rattle.ddl_names.specs.Findings.{again, demand}
 use Rattle.ddl_names.specs.Forms.{once_again, type_findings, typed_findings}
 use Rattle.ddl_names.specs.Modules.{bits_findings, con_findings, decl_findings, may_take, param_findings, param_type, part_findings, part_names, part_type}
 use Rattle.ddl_names.specs.Scope.{Scope, local_of, param_kind, param_name, param_scope}

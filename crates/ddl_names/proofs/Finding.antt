@@ -3,7 +3,6 @@ use Rattle.std.proofs.Common.{◌≡◌, List, [], ◌∷◌, ◌++◌, Option, 
 use Rattle.std.specs.Option.{option_or}
 use Rattle.std.proofs.lemmas.List.{append-nil, append_assoc}
 use Rattle.ddl_names.specs.declared.resolved.Use.{Use}
-use Rattle.ddl_names.specs.declared.error.NameError.{NameError}
 use Rattle.ddl_names.specs.Findings.{Finding, uses, refuses, all_uses, first_refusal}
 
 -- of findings one after the other the first refusal is that of the first, or else that of the second

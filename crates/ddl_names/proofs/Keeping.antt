@@ -8,11 +8,12 @@ use Rattle.ddl_tree.specs.ModuleTree as mo
 use Rattle.ddl_tree.specs.ViewModule.{decl_view}
 use Rattle.ddl_names.specs.declared.resolved.DeclInfo.{DeclInfo}
 use Rattle.ddl_names.specs.declared.resolved.Resolved.{Resolved}
-use Rattle.ddl_names.specs.declared.resolved.Use.{Use}
+use Rattle.ddl_names.specs.declared.resolved.Uses.{Uses}
 use Rattle.ddl_names.specs.Bindings.{decl_kind, decl_name, decl_params}
+use Rattle.ddl_names.specs.Cutting.{cut_at}
 use Rattle.ddl_names.specs.Scope.{param_kind}
 use Rattle.ddl_names.specs.Found.{unit_view}
-use Rattle.ddl_names.specs.Resolves.{AreBound, AreResolved, Info, IsResolved, info, info_view, infos_from, loaded}
+use Rattle.ddl_names.specs.Resolves.{AreBound, AreResolved, Info, IsResolved, firsts_of, info, info_view, infos_from, loaded}
 
 -- a declaration as it is kept, by its parts
 abbrev parts : ℕ → mo.Decl → List ℕ → Kind → List Kind → Info
@@ -56,8 +57,14 @@ pub names_kept : (us : List SourceUnit) (xs whole : List (List ℕ)) → us ≡ 
 names_kept us xs whole e h = sym (append-nil xs) ∙ ap (λ vs. xs ++ map (λ v. v.name) vs) (sym e) ∙ h
 
 -- with the uses that bind their names, the modules are resolved
-pub resolved : (us : List SourceUnit) (uses : List Use) (r : Resolved) → AreBound us uses → IsResolved us uses r → AreResolved us r
-resolved us uses r bound kept = (bound.0, (kept.0, kept.1, kept.2 ∙ bound.1))
+pub resolved : (us : List SourceUnit) (found : Uses) (r : Resolved) → AreBound us found → IsResolved us found r → AreResolved us r
+resolved us found r bound kept = (
+  bound.0,
+  kept.0,
+  kept.1,
+  kept.2 ∙ bound.1,
+  ap (λ xs. cut_at xs (firsts_of r.decls.items)) kept.2 ∙ ap (cut_at found.all.items) kept.3 ∙ bound.2,
+)
 
 pub none_left : {X : Type 0} (xs : List X) → length xs ≡ 0 → xs ≡ []
 none_left [] h = refl

@@ -1,5 +1,5 @@
 -- The names that are left in scope are those that stood there before others were bound.
-use Rattle.std.proofs.Common.{◌≡◌, ℕ, suc, ◌≤◌, ◌∷◌, length, Some, None, refl, ◌∙◌, arith}
+use Rattle.std.proofs.Common.{◌≡◌, ℕ, ◌≤◌, ◌∷◌, length, Some, None, refl, ◌∙◌, arith}
 use Rattle.ddl_tree.specs.declared.name.Name.{Name}
 use Rattle.ddl_tree.specs.declared.pattern.Names.{Names}
 use Rattle.ddl_tree.specs.declared.pattern.Binder.{Binder}

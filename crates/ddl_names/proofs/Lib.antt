@@ -1,8 +1,11 @@
 pub mod Arguing
+pub mod Begins
 mod BindingRows
+mod CuttingRows
 pub mod Declared
 pub mod Done
 pub mod Finding
+pub mod Firsts
 pub mod Gathering
 pub mod Keeping
 pub mod Kept

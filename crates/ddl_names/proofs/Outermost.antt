@@ -1,14 +1,7 @@
 -- What is left of a scope once the innermost names are forgotten.
-use Rattle.std.proofs.Common.{◌≡◌, ℕ, suc, ◌+◌, ◌-◌, ◌<◌, ◌≤◌, List, [], ◌∷◌, length, map, reverse, drop, Some, None, refl, ap, sym, ◌∙◌, arith}
+use Rattle.std.proofs.Common.{◌≡◌, ℕ, suc, ◌-◌, ◌<◌, ◌≤◌, List, [], ◌∷◌, length, reverse, drop, refl, sym, ◌∙◌, arith}
 use Rattle.std.proofs.lemmas.List.{length-map, length-reverse}
-use Rattle.ddl_tree.specs.declared.name.Name.{Name}
-use Rattle.ddl_tree.specs.declared.pattern.Names.{Names}
-use Rattle.ddl_tree.specs.declared.pattern.Binder.{Binder}
-use Rattle.ddl_tree.specs.declared.pattern.Binder.TheVariants.{Called, Ignored}
-use Rattle.ddl_tree.specs.declared.pattern.Pat.{Pat}
-use Rattle.ddl_tree.specs.declared.pattern.Pat.TheVariants as pat
-use Rattle.ddl_tree.specs.ExprTree as ex
-use Rattle.ddl_names.specs.Scope.{Local, Scope, after_binder, after_content, after_item, after_names, after_pattern, after_second, outermost}
+use Rattle.ddl_names.specs.Scope.{Local, Scope, outermost}
 use Rattle.ddl_names.specs.declared.scope.Local.{Local as Held}
 use Rattle.ddl_names.specs.Held.{local_view, names_view}
 

@@ -1,6 +1,6 @@
 -- What names mean that are no local ones.
 use Rattle.std.proofs.Common.{◌≡◌, ℕ, zero, suc, ◌<◌, ◌≤◌, List, [], ◌∷◌, length, map, get_or, Bool, true, false, cond, Option, Some, None, refl, ap, sym, subst, ◌∙◌, true≢false, is_some, eq-eqb, ◌+◌, arith}
-use Rattle.std.specs.Prelude.{bytes_eq, find, filter, not, ◌&&◌, nat_eq, slice_get, unwrap_or}
+use Rattle.std.specs.Prelude.{bytes_eq, find, filter, not, ◌&&◌, nat_eq, unwrap_or}
 use Rattle.std.proofs.lemmas.Option.{slice_get-get_or, slice_get_past}
 use Rattle.ddl_tree.specs.declared.module.SourceUnit.{SourceUnit}
 use Rattle.ddl_tree.specs.ModuleTree as mo

@@ -10,7 +10,7 @@ use Rattle.ddl_base.specs.declared.span.Span.{Span}
 use Rattle.ddl_tree.specs.declared.name.Name.{Name}
 use Rattle.ddl_names.specs.declared.seen.Place.{Place}
 use Rattle.ddl_names.specs.declared.error.NameError.TheVariants as e
-use Rattle.ddl_names.specs.Findings.{again, all_uses, first_refusal, twice_after}
+use Rattle.ddl_names.specs.Findings.{again, first_refusal, twice_after}
 use Rattle.ddl_names.specs.Held.{ArePlaced, at_text, first_place, place_view}
 
 pub names_more : (ps : List Place) (p : Place) → map place_view (ps ++ p ∷ []) ≡ map place_view ps ++ place_view p ∷ []

@@ -15,9 +15,9 @@ use Rattle.ddl_tree.specs.ModuleTree as mo
 use Rattle.ddl_tree.specs.ViewModule.{decl_view}
 use Rattle.ddl_names.specs.declared.error.NameError.{NameError}
 use Rattle.ddl_names.specs.declared.error.NameError.TheVariants as e
-use Rattle.ddl_names.specs.Bindings.{Loaded, decl_name}
-use Rattle.ddl_names.specs.Findings.{Finding, refuses, all_uses, again, first_refusal, twice_after, twice_among}
-use Rattle.ddl_names.specs.Modules.{declared_twice, one_too_many, too_many}
+use Rattle.ddl_names.specs.Bindings.{decl_name}
+use Rattle.ddl_names.specs.Findings.{Finding, first_refusal, twice_after, twice_among}
+use Rattle.ddl_names.specs.Modules.{declared_twice, too_many}
 use Rattle.ddl_names.specs.Held.{ArePlaced, at_text}
 use Rattle.ddl_names.specs.Found.{IsFirst, unit_view}
 use Rattle.ddl_names.specs.Resolves.{loaded}

@@ -1,5 +1,5 @@
 -- One part more of a list, as it is found.
-use Rattle.std.proofs.Common.{◌≡◌, ℕ, suc, zero, ◌+◌, ◌<◌, ◌≤◌, List, [], ◌∷◌, ◌++◌, length, map, drop, get_or, refl, ap, sym, ◌∙◌, drop-cons, add-one, arith}
+use Rattle.std.proofs.Common.{◌≡◌, ℕ, suc, zero, ◌+◌, ◌<◌, ◌≤◌, List, [], ◌∷◌, ◌++◌, length, drop, get_or, refl, ap, ◌∙◌, drop-cons, add-one, arith}
 use Rattle.std.proofs.lemmas.List.{drop_all}
 use Rattle.ddl_tree.specs.declared.name.Name.{Name}
 use Rattle.ddl_tree.specs.declared.expr.Expr.{Expr}

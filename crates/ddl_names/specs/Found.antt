@@ -1,7 +1,5 @@
 -- What a walk over a part of a module answers, and what a name means to it.
 use Rattle.std.specs.Prelude.{◌≡◌, ℕ, List, [], ◌++◌, map, slice_get, Bool, not, ◌&&◌, nat_eq, Option, Some, None, Result, Ok, Err}
-use denote.Ref.{Bor}
-use Rattle.ddl_tree.specs.declared.decl.Param.{Param}
 use Rattle.ddl_tree.specs.ViewModule.{param_view}
 use Rattle.ddl_names.specs.declared.want.Want.{Want}
 use Rattle.ddl_names.specs.declared.resolved.Use.{Use}

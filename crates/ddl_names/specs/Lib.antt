@@ -1,5 +1,6 @@
 pub mod Bindings
 pub mod BuiltIns
+pub mod Cutting
 pub mod Findings
 pub mod Forms
 pub mod Found

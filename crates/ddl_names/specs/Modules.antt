@@ -98,3 +98,18 @@ refusal units = first_refusal (all_findings units)
 -- the uses in them
 abbrev pub uses_in : List Loaded → List Use
 uses_in units = all_uses (all_findings units)
+
+-- ---- the uses in each declaration
+
+-- in each of these declarations of a module
+abbrev pub uses_in_each : Site → List mo.Decl → List (List Use)
+uses_in_each site ds = map (λ d. all_uses (decl_findings site d)) ds
+
+-- in each of these modules, of which the first stands at place n of all
+abbrev pub uses_from : List Loaded → ℕ → List Loaded → List (List Use)
+uses_from units n [] = []
+uses_from units n (u ∷ us) = uses_in_each (record { units = units; here = n }) u.tree.decls ++ uses_from units (n + 1) us
+
+-- in each declaration, module by module in text order
+abbrev pub uses_of_each : List Loaded → List (List Use)
+uses_of_each units = uses_from units 0 units

@@ -28,6 +28,6 @@ pub use builtin::BuiltIn;
 pub use ddl_tree::Kind;
 pub use error::NameError;
 pub use kept_decls::resolve;
-pub use resolved::{Bound, DeclInfo, Resolved, Use};
+pub use resolved::{Bound, DeclInfo, Resolved, Use, Uses};
 pub use resolving::bindings;
 pub use want::Want;

@@ -21,6 +21,15 @@ pub struct Use {
     pub bound: Bound,
 }
 
+/// The uses of names in modules, and where those in each declaration begin.
+#[derive(Drop)]
+pub struct Uses {
+    /// All uses, in text order.
+    pub all: Vec<Use>,
+    /// For each declaration, module by module in text order, the place of its first use.
+    pub firsts: Vec<usize>,
+}
+
 /// A declaration, with its module and what its name stands for.
 #[derive(Drop)]
 pub struct DeclInfo {
@@ -29,6 +38,8 @@ pub struct DeclInfo {
     pub name: Bytes,
     pub kind: Kind,
     pub params: Vec<Kind>,
+    /// The place of its first use in the list of all; its uses go on up to the first of the next declaration.
+    pub first_use: usize,
     pub decl: Decl,
 }
 
@@ -45,23 +56,26 @@ pub struct Resolved {
 
 impl Resolved {
     ghost use Rattle.std.specs.Prelude.{IfOk};
-    ghost use Rattle.ddl_names.specs.Resolves.{IsResolved};
+    ghost use Rattle.ddl_names.specs.Resolves.{HaveFirsts, IsResolved};
 
     /// These modules with these uses: what is declared in them stands in one list, in the order of the modules.
-    pub fn of(alloc: Global, units: Vec<SourceUnit>, uses: Vec<Use>) -> Result<Resolved, NoMemory>
-        ensures { IfOk result (IsResolved units.items uses.items) }
+    #[tactic(auto, using(crate::proofs::Firsts::firsts))]
+    pub fn of(alloc: Global, units: Vec<SourceUnit>, uses: Uses) -> Result<Resolved, NoMemory>
+        requires { HaveFirsts units.items uses }
+        ensures { IfOk result (IsResolved units.items uses) }
     {
+        let Uses { all, firsts } = uses;
         let mut names = Vec::new(alloc);
         let mut decls = Vec::new(alloc);
         let mut place = 0;
         for unit in units {
-            keep_unit(alloc, place, unit, &mut names, &mut decls)?;
+            keep_unit(alloc, place, unit, &firsts, &mut names, &mut decls)?;
             place = next_place(place)?;
         }
         Ok(Resolved {
             units: names,
             decls,
-            uses,
+            uses: all,
         })
     }
 }

@@ -1,15 +1,16 @@
-ghost use Rattle.std.specs.Prelude.{◌≡◌, IfErr, IfOk, None, OnOk, flat_map, map};
+ghost use Rattle.std.specs.Prelude.{◌≡◌, ◌++◌, IfErr, IfOk, None, OnOk, flat_map, length, map};
 ghost use Rattle.ddl_tree.specs.ViewModule.{decl_view};
+ghost use Rattle.ddl_names.specs.Cutting.{begins};
 ghost use Rattle.ddl_names.specs.Findings.{all_uses, first_refusal};
 ghost use Rattle.ddl_names.specs.Found.{AreNames, Finds, IsFirst, IsOuter, site_view};
-ghost use Rattle.ddl_names.specs.Modules.{decl_findings, findings_from};
+ghost use Rattle.ddl_names.specs.Modules.{decl_findings, findings_from, uses_in_each, uses_of_each};
 ghost use Rattle.ddl_names.specs.Resolves.{AreBound, IsUnbound, loaded};
 
 use crate::decls::take_decls;
 use crate::module_names::{ModuleNames, names_of};
 use crate::outer::Outer;
 use crate::twice::{few_enough, names_differ};
-use crate::{NameError, Use};
+use crate::{NameError, Uses};
 use ddl_base::NoMemory;
 use ddl_tree::{Decl, SourceUnit};
 use std::alloc::Global;
@@ -30,10 +31,11 @@ fn take_module<'a>(
     outer: &mut Outer<'a>,
     place: usize,
     decls: &'a [Decl],
-    uses: &mut Vec<Use>,
+    uses: &mut Uses,
 ) -> Result<(), NameError>
     requires { IsOuter outer.old }
-    ensures found { Finds (flat_map (decl_findings (record { units = (site_view outer.old).units; here = place })) (map decl_view decls.now)) uses.old.items uses.new.items result }
+    ensures found { Finds (flat_map (decl_findings (record { units = (site_view outer.old).units; here = place })) (map decl_view decls.now)) uses.old.all.items uses.new.all.items result }
+    ensures firsts { OnOk result (uses.new.firsts.items ≡ uses.old.firsts.items ++ begins (length uses.old.all.items) (uses_in_each (record { units = (site_view outer.old).units; here = place }) (map decl_view decls.now))) }
     ensures kept { OnOk result (outer.new ≡ record outer.old { here = place }) }
 {
     outer.here = number_of(place)?;
@@ -47,13 +49,17 @@ fn take_modules<'a>(
     alloc: Global,
     units: &'a [SourceUnit],
     names: Vec<ModuleNames<'a>>,
-) -> Result<Vec<Use>, NameError>
+) -> Result<Uses, NameError>
     requires { AreNames (loaded units.now) names.items }
     ensures none_refused { OnOk result (first_refusal (findings_from (loaded units.now) 0 (loaded units.now)) ≡ None) }
-    ensures taken { IfOk result (λ uses. uses.items ≡ all_uses (findings_from (loaded units.now) 0 (loaded units.now))) }
+    ensures taken { IfOk result (λ uses. uses.all.items ≡ all_uses (findings_from (loaded units.now) 0 (loaded units.now))) }
+    ensures firsts { IfOk result (λ uses. uses.firsts.items ≡ begins 0 (uses_of_each (loaded units.now))) }
     ensures refused { IfErr result (IsFirst (findings_from (loaded units.now) 0 (loaded units.now))) }
 {
-    let mut uses = Vec::new(alloc);
+    let mut uses = Uses {
+        all: Vec::new(alloc),
+        firsts: Vec::new(alloc),
+    };
     let mut outer = Outer {
         units,
         here: 0,
@@ -65,10 +71,10 @@ fn take_modules<'a>(
     Ok(uses)
 }
 
-/// The uses of names in these modules, each with what binds it, or the first rule that is not met. Unit 0 is the prelude.
-#[tactic(auto, using(crate::proofs::Gathering::gathering))]
-pub fn bindings(alloc: Global, units: &[SourceUnit]) -> Result<Vec<Use>, NameError>
-    ensures bound { IfOk result (λ uses. AreBound units.now uses.items) }
+/// The uses of names in these modules, each with what binds it, and where those in each declaration begin; or the first rule that is not met. Unit 0 is the prelude.
+#[tactic(auto, using(crate::proofs::Gathering::gathering, crate::proofs::Begins::beginnings))]
+pub fn bindings(alloc: Global, units: &[SourceUnit]) -> Result<Uses, NameError>
+    ensures bound { IfOk result (AreBound units.now) }
     ensures refused { IfErr result (IsUnbound units.now) }
 {
     few_enough(units)?;

@@ -1,12 +1,17 @@
-use Rattle.std.proofs.Common.{drop, map}
+use Rattle.std.proofs.Common.{◌≡◌, ◌++◌, drop, length, map}
 use Rattle.std.specs.Prelude.{flat_map}
 use Rattle.ddl_tree.specs.ViewModule.{decl_view}
+use Rattle.ddl_names.specs.Cutting.{begins}
 use Rattle.ddl_names.specs.Found.{site_view}
-use Rattle.ddl_names.specs.Modules.{decl_findings}
+use Rattle.ddl_names.specs.Modules.{decl_findings, uses_in_each}
 use Rattle.ddl_names.proofs.Finding.{Leaves}
 use Rattle.ddl_names.proofs.decls.take_decls.Given as goal
 
 abbrev pub invariant-loop-decl : goal.invariant-loop-decl
 invariant-loop-decl l =
-    Leaves (flat_map (decl_findings (site_view l.outer)) (map decl_view l.decls)) l.initial.uses.items
-    (flat_map (decl_findings (site_view l.outer)) (map decl_view (drop l.decl-index l.decls))) l.uses.items
+    record {
+      left : Leaves (flat_map (decl_findings (site_view l.outer)) (map decl_view l.decls)) l.initial.uses.all.items
+          (flat_map (decl_findings (site_view l.outer)) (map decl_view (drop l.decl-index l.decls))) l.uses.all.items;
+      firsts : l.uses.firsts.items ++ begins (length l.uses.all.items) (uses_in_each (site_view l.outer) (map decl_view (drop l.decl-index l.decls)))
+          ≡ l.initial.uses.firsts.items ++ begins (length l.initial.uses.all.items) (uses_in_each (site_view l.outer) (map decl_view l.decls));
+    }

@@ -1,7 +1,8 @@
-use Rattle.std.proofs.Common.{◌≡◌, ◌++◌, drop}
+use Rattle.std.proofs.Common.{◌≡◌, ◌++◌, drop, length}
+use Rattle.ddl_names.specs.Cutting.{begins}
 use Rattle.ddl_names.specs.Findings.{all_uses, first_refusal}
 use Rattle.ddl_names.specs.Found.{AreNames}
-use Rattle.ddl_names.specs.Modules.{findings_from}
+use Rattle.ddl_names.specs.Modules.{findings_from, uses_from, uses_of_each}
 use Rattle.ddl_names.specs.Resolves.{loaded}
 use Rattle.ddl_names.proofs.resolving.take_modules.Given as goal
 
@@ -11,5 +12,6 @@ invariant-loop-place l =
       among : l.outer.units.now ≡ l.units;
       named : AreNames (loaded l.units) l.outer.names.items;
       rest : first_refusal (findings_from (loaded l.units) l.place (loaded (drop l.place l.units))) ≡ first_refusal (findings_from (loaded l.units) 0 (loaded l.units));
-      taken : l.uses.items ++ all_uses (findings_from (loaded l.units) l.place (loaded (drop l.place l.units))) ≡ all_uses (findings_from (loaded l.units) 0 (loaded l.units));
+      taken : l.uses.all.items ++ all_uses (findings_from (loaded l.units) l.place (loaded (drop l.place l.units))) ≡ all_uses (findings_from (loaded l.units) 0 (loaded l.units));
+      firsts : l.uses.firsts.items ++ begins (length l.uses.all.items) (uses_from (loaded l.units) l.place (loaded (drop l.place l.units))) ≡ begins 0 (uses_of_each (loaded l.units));
     }

@@ -1,6 +1,5 @@
 -- One more declaration, whose name is new.
-use Rattle.std.proofs.Common.{◌≡◌, ℕ, List, Option, None, ap, sym, ◌∙◌, arith}
-use Rattle.ddl_base.specs.declared.span.Span.{Span}
+use Rattle.std.proofs.Common.{◌≡◌, None, ap, sym, ◌∙◌, arith}
 use Rattle.ddl_tree.specs.ViewModule.{decl_view}
 use Rattle.ddl_names.specs.Bindings.{decl_name}
 use Rattle.ddl_names.specs.Held.{at_text}

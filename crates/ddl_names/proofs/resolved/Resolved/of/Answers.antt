@@ -1,8 +1,9 @@
 -- One module more, and none left.
-use Rattle.std.proofs.Common.{◌≡◌, [], ◌∷◌, ◌++◌, length, map, refl, ap, sym, ◌∙◌, arith}
+use Rattle.std.proofs.Common.{◌≡◌, ℕ, List, [], ◌∷◌, ◌++◌, length, map, refl, ap, sym, subst, ◌∙◌, arith}
 use Rattle.std.specs.Vec.Iter.{into_iter_items}
 use Rattle.ddl_tree.specs.declared.module.SourceUnit.{SourceUnit}
-use Rattle.ddl_names.specs.Resolves.{info_view, infos_from, loaded}
+use Rattle.ddl_names.specs.Resolves.{AreFirst, info_view, infos_from, loaded}
+use Rattle.ddl_names.proofs.Firsts.{all_first, room_left}
 use Rattle.ddl_names.proofs.Keeping.{name_kept, names_kept, none_left, unit_kept, units_kept}
 use Rattle.ddl_names.proofs.resolved.Resolved.of.Goals as goal
 
@@ -16,6 +17,9 @@ loop-unit-preserved c =
       decls = ap (λ n. map info_view c.keep_unit.new.decls.items ++ infos_from n (loaded (into_iter_items c.next.new.self))) c.in_ok-place.ensures
           ∙ unit_kept c.loop-unit.place c.in-Some.unit (into_iter_items c.next.new.self) (into_iter_items c.loop-unit.unit-iterator) (map info_view c.loop-unit.decls.items)
           (map info_view c.keep_unit.new.decls.items) _ steps c.in_ok-keep_unit.ensures.decls c.loop-unit.invariant.decls;
+      room = room_left c.loop-unit.place c.in-Some.unit (into_iter_items c.next.new.self) (into_iter_items c.loop-unit.unit-iterator) c.loop-unit.decls.items c.keep_unit.new.decls.items _
+          steps c.in_ok-keep_unit.ensures.decls c.loop-unit.invariant.room;
+      firsts = subst (λ (fs : List ℕ). AreFirst fs c.keep_unit.new.decls.items) c.deref.ensures.value c.in_ok-keep_unit.ensures.firsts;
     }
 
 pub returns : goal.returns
@@ -27,4 +31,5 @@ returns c =
       units_kept c.loop-unit.place (into_iter_items c.loop-unit.unit-iterator) (map info_view c.loop-unit.decls.items) _ empty c.loop-unit.invariant.decls
           ∙ ap (λ us. infos_from 0 (loaded us)) c.into_iter-unit-iterator.ensures.into_iter_gives.0,
       refl,
+      all_first _ (into_iter_items c.loop-unit.unit-iterator) c.loop-unit.decls.items empty c.loop-unit.invariant.room c.loop-unit.invariant.firsts,
     )
