@@ -2,10 +2,12 @@
 #![tactic(auto)]
 
 mod classes;
+mod declarations;
 mod equations;
 mod layouts;
 mod tokens;
 
+use crate::declarations::Uses;
 use crate::equations::{Link, Order, Towers, equal_towers, tower};
 use std::alloc::Global;
 use std::io::{Error, ErrorKind};
@@ -51,6 +53,14 @@ fn checked_deeper(alloc: Global, inside: u32) -> io::Result<u32> {
     }
 }
 
+/// The number of groups of so many declarations.
+fn grouped(alloc: Global, uses: Uses, count: u32) -> io::Result<usize> {
+    match declarations::count_of(alloc, uses, count) {
+        Ok(groups) => Ok(groups),
+        Err(_) => Err(Error::from(ErrorKind::OutOfMemory)),
+    }
+}
+
 fn main(rt: HostRuntime) -> io::Result<()> {
     let alloc = rt.alloc();
     let mut words = env::args(&rt)?.skip(1);
@@ -65,6 +75,9 @@ fn main(rt: HostRuntime) -> io::Result<()> {
         "bits-before" => println!(rt; "{}", checked(alloc, number, 1)?),
         "bits-inside" => println!(rt; "{}", checked(alloc, 1, number)?),
         "bits-deeper" => println!(rt; "{}", checked_deeper(alloc, number)?),
+        "groups-chain" => println!(rt; "{}", grouped(alloc, Uses::Chain, number)?),
+        "groups-ring" => println!(rt; "{}", grouped(alloc, Uses::Ring, number)?),
+        "groups-nothing" => println!(rt; "{}", grouped(alloc, Uses::Nothing, number)?),
         "class" => println!(rt; "{}", classes::letters_before_a_stop(&text, number)),
         "lex" => println!(rt; "{}", tokens::count(alloc, &text)?),
         "chain" => println!(rt;

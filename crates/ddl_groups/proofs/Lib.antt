@@ -3,8 +3,10 @@ pub mod Grouping
 pub mod Idle
 pub mod LabelLemmas
 pub mod Closed
+pub mod CutAt
 pub mod Fronts
 pub mod Marked
+pub mod Needing
 pub mod Numbering
 pub mod OneGrouping
 pub mod Opened

@@ -1,6 +1,7 @@
 pub mod Groups
 pub mod Labels
 pub mod Laws
+pub mod Needs
 pub mod Numbered
 pub mod Ordered
 pub mod Placing

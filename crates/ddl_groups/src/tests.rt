@@ -4,8 +4,10 @@ ghost use Rattle.ddl_groups.specs.Ordered.{AreDeclared};
 ghost use Rattle.ddl_groups.specs.Placing.{lists_of};
 
 use crate::lists::{add_to, empty_lists};
-use crate::ordered;
-use ddl_base::NoMemory;
+use crate::{groups, ordered};
+use ddl_base::{Bytes, NoMemory, Span};
+use ddl_names::{Bound, BuiltIn, DeclInfo, Resolved, Use};
+use ddl_tree::{ByteLit, Cls, Decl, Kind, Name};
 use std::alloc::Global;
 use std::test::Fail;
 
@@ -99,5 +101,63 @@ fn a_long_chain_and_a_large_group_are_no_trouble(rt: HostRuntime) -> Result<(), 
     assert_eq!(rt; groups_of(alloc, 60_000, &uses)?.len(), 60_000);
     uses.push((59_999, 0))?;
     assert_eq!(rt; groups_of(alloc, 60_000, &uses)?.len(), 1);
+    Ok(())
+}
+
+const SPAN: Span = Span {
+    module: 1,
+    from: 0,
+    to: 1,
+};
+
+/// A declaration whose uses begin at a place of all.
+fn declared(alloc: Global, first_use: usize) -> Result<DeclInfo, NoMemory> {
+    let name = Name {
+        text: Bytes::of(alloc, b"$c")?,
+        span: SPAN,
+    };
+    let byte = ByteLit::Quoted {
+        value: b'c',
+        span: SPAN,
+    };
+    Ok(DeclInfo {
+        unit: 1,
+        name: Bytes::of(alloc, b"$c")?,
+        kind: Kind::Class,
+        params: Vec::new(alloc),
+        first_use,
+        decl: Decl::Class {
+            name,
+            body: Cls::One(byte),
+            span: SPAN,
+        },
+    })
+}
+
+/// The first of three declarations uses the last, and the last the second: the uses are told by where they begin.
+#[test]
+fn uses_stand_in_their_declarations(rt: HostRuntime) -> Result<(), Fail> {
+    let alloc = rt.alloc();
+    let mut decls = Vec::new(alloc);
+    let mut uses = Vec::new(alloc);
+    for first_use in [0, 3, 3] {
+        decls.push(declared(alloc, first_use)?)?;
+    }
+    for bound in [
+        Bound::Local(SPAN),
+        Bound::Decl(2),
+        Bound::BuiltIn(BuiltIn::UInt8),
+        Bound::Decl(1),
+    ] {
+        uses.push(Use { span: SPAN, bound })?;
+    }
+    let resolved = Resolved {
+        units: Vec::new(alloc),
+        decls,
+        uses,
+    };
+    let found = groups(alloc, &resolved)?;
+    let text = format!(in alloc; "{:?}", found.lists)?;
+    assert_eq!(rt; text.as_str(), "[[1], [2], [0]]");
     Ok(())
 }
