@@ -1,3 +1,5 @@
+ghost use Rattle.std.specs.Prelude.{◌≡◌, IfOk};
+
 use crate::{LoadError, load};
 use ddl_base::Bytes;
 use ddl_outside::MemFiles;
@@ -56,7 +58,7 @@ fn told(alloc: Global, answer: Result<Vec<SourceUnit>, LoadError>) -> Result<Str
 }
 
 /// Modules by their files, and what the root `d/A` answers.
-const ROWS: [(&str, &str, &str); 5] = [
+const ROWS: [(&str, &str, &str); 7] = [
     (
         "import B\nimport Prelude\nimport C\ndef Main = UInt8",
         "import C",
@@ -71,6 +73,12 @@ const ROWS: [(&str, &str, &str); 5] = [
         "import C\nimport B",
         "import B",
         "cycle at Span { module: 3, from: 7, to: 8 } B",
+    ),
+    ("import B\nimport B", "", " Prelude[] A[2, 2] B[]"),
+    (
+        "import A",
+        "",
+        "cycle at Span { module: 1, from: 7, to: 8 } A",
     ),
     ("import D", "", "missing d/D.ddl"),
     ("import", "", "unexpected token 1"),
@@ -91,21 +99,96 @@ fn modules_are_loaded(rt: HostRuntime) -> Result<(), Fail> {
     Ok(())
 }
 
-/// Each of 256 modules imports the next, and the last one more.
+/// A load of three modules asks for a length and for bytes three times.
+#[test]
+fn each_failing_call_is_told(rt: HostRuntime) -> Result<(), Fail> {
+    let alloc = rt.alloc();
+    for call in 1u64..=7 {
+        let mut files = MemFiles::new(alloc);
+        files.add("A.ddl", b"import B".to_vec(alloc)?)?;
+        files.add("B.ddl", b"import C".to_vec(alloc)?)?;
+        files.add("C.ddl", b"def Main = UInt8".to_vec(alloc)?)?;
+        files.fail_at(call)?;
+        let answer = load(alloc, &mut files, "A");
+        let text = told(alloc, answer)?;
+        let want = if call <= 6 {
+            "reading failed"
+        } else {
+            " Prelude[] A[2] B[3] C[]"
+        };
+        assert_eq!(rt; text.as_str(), want);
+    }
+    Ok(())
+}
+
+/// 256 modules, each of which imports the next, and the last this one.
+fn chain(alloc: Global, last: u32) -> Result<MemFiles, Fail>
+    ensures { IfOk result (λ files. files.calls ≡ 0) }
+{
+    let mut files = MemFiles::new(alloc);
+    for number in 1u32..=256 {
+        let next = if number < 256 { number + 1 } else { last };
+        let file = format!(in alloc; "M{number}.ddl")?;
+        let text = format!(in alloc; "import M{next}")?;
+        files.add(file.as_str(), text.as_bytes().to_vec(alloc)?)?;
+    }
+    Ok(files)
+}
+
 #[test]
 fn module_257_is_refused(rt: HostRuntime) -> Result<(), Fail> {
     let alloc = rt.alloc();
-    let mut files = MemFiles::new(alloc);
-    for number in 1u32..=256 {
-        let file = format!(in alloc; "M{number}.ddl")?;
-        let text = format!(in alloc; "import M{}", number + 1)?;
-        files.add(file.as_str(), text.as_bytes().to_vec(alloc)?)?;
-    }
+    let mut files = chain(alloc, 257)?;
     let answer = load(alloc, &mut files, "M1");
     let text = told(alloc, answer)?;
     assert_eq!(rt;
         text.as_str(),
         "too many at Span { module: 256, from: 7, to: 11 } M256"
     );
+    Ok(())
+}
+
+#[test]
+fn a_cycle_of_256_modules_is_told(rt: HostRuntime) -> Result<(), Fail> {
+    let alloc = rt.alloc();
+    let mut files = chain(alloc, 1)?;
+    let answer = load(alloc, &mut files, "M1");
+    let text = told(alloc, answer)?;
+    let mut want = format!(in alloc; "cycle at Span {{ module: 1, from: 7, to: 9 }}")?;
+    for number in 1u32..=256 {
+        let name = format!(in alloc; " M{number}")?;
+        want.push_str(name.as_str())?;
+    }
+    assert_eq!(rt; text.as_str(), want.as_str());
+    Ok(())
+}
+
+/// So many bytes: an import of this module, and spaces.
+fn padded(alloc: Global, import: &str, length: usize) -> Result<Vec<u8>, Fail> {
+    let mut bytes = import.as_bytes().to_vec(alloc)?;
+    bytes.resize(length, b' ')?;
+    Ok(bytes)
+}
+
+/// Four modules of 2^22 bytes each, one of which may have more, and one of so many bytes behind them.
+#[test]
+fn lengths_are_limited(rt: HostRuntime) -> Result<(), Fail> {
+    let alloc = rt.alloc();
+    let most: usize = 1 << 22;
+    for (first, last, want) in [
+        (most, 0, " Prelude[] A[2] B[3] C[4] D[5] E[]"),
+        (most, 1, "too large: 1 bytes"),
+        (most + 1, 0, "too large: 4194305 bytes"),
+    ] {
+        let mut files = MemFiles::new(alloc);
+        files.add("A.ddl", padded(alloc, "import B", first)?)?;
+        files.add("B.ddl", padded(alloc, "import C", most)?)?;
+        files.add("C.ddl", padded(alloc, "import D", most)?)?;
+        files.add("D.ddl", padded(alloc, "import E", most)?)?;
+        files.add("E.ddl", padded(alloc, "", last)?)?;
+        let answer = load(alloc, &mut files, "A");
+        let text = told(alloc, answer)?;
+        assert_eq!(rt; text.as_str(), want);
+    }
     Ok(())
 }

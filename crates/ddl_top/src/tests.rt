@@ -30,7 +30,7 @@ struct Row {
     text: &'static str,
 }
 
-const RUNS: [Row; 9] = [
+const RUNS: [Row; 10] = [
     Row {
         words: "run A in",
         module: "def Main = Match \"ab\"",
@@ -44,6 +44,13 @@ const RUNS: [Row; 9] = [
         input: "",
         status: Status::NoParse,
         text: "{\"fail\":{\"at\":0,\"from\":11,\"in\":\"input\",\"module\":\"A\",\"to\":21,\"why\":\"match\"}}\n",
+    },
+    Row {
+        words: "run A A.ddl",
+        module: "def Main = block { Match \"def\"; x = UInt8 }",
+        input: "",
+        status: Status::Parses,
+        text: "{\"end\":4,\"in\":\"input\",\"value\":{\"x\":32}}\n{\"parses\":1}\n",
     },
     Row {
         words: "run A in",
