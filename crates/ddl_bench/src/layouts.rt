@@ -129,19 +129,20 @@ fn two(alloc: Global, before: u32, inside: u32) -> Result<Layout, NoMemory>
     )
 }
 
-/// The same, where the choice stands a layout deeper, and no bits before it.
-fn two_deeper(alloc: Global, inside: u32) -> Result<Layout, NoMemory>
+/// The same, where the choice stands a layout deeper, and no bits before it. Their ends are 0 and 1 in the
+/// one, and `other` and 3 in the other: if that is 1, they have numbers in common.
+fn two_deeper(alloc: Global, inside: u32, other: u128) -> Result<Layout, NoMemory>
     requires { 1 ≤ inside }
     ensures { IfOk result (λ l. HasAcceptedParts (layout_view l)) }
 {
     either(
         alloc,
         single(alloc, deeper(alloc, inside, 0, 1)?)?,
-        single(alloc, deeper(alloc, inside, 2, 3)?)?,
+        single(alloc, deeper(alloc, inside, other, 3)?)?,
     )
 }
 
-/// Builds and checks such two constructors so often. The width that both have, or 0.
+/// Builds and checks such two constructors so often. The width that both have, or 0 where a number fits both.
 pub fn width_of_two(alloc: Global, times: u32, before: u32, inside: u32) -> Result<u32, NoMemory>
     requires before { 1 ≤ before }
     requires inside { 1 ≤ inside }
@@ -154,12 +155,17 @@ pub fn width_of_two(alloc: Global, times: u32, before: u32, inside: u32) -> Resu
 }
 
 /// The same of two in which the choice stands a layout deeper.
-pub fn width_of_two_deeper(alloc: Global, times: u32, inside: u32) -> Result<u32, NoMemory>
+pub fn width_of_two_deeper(
+    alloc: Global,
+    times: u32,
+    inside: u32,
+    other: u128,
+) -> Result<u32, NoMemory>
     requires { 1 ≤ inside }
 {
     let mut found = 0;
     for _time in 0..times {
-        found = width(alloc, two_deeper(alloc, inside)?);
+        found = width(alloc, two_deeper(alloc, inside, other)?);
     }
     Ok(found)
 }

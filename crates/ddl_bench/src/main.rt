@@ -42,12 +42,13 @@ fn checked(alloc: Global, before: u32, inside: u32) -> io::Result<u32> {
     }
 }
 
-/// The width of a layout with so many free bits inside of choices that stand a layout deeper.
-fn checked_deeper(alloc: Global, inside: u32) -> io::Result<u32> {
+/// The width of a layout with so many free bits inside of choices that stand a layout deeper, or
+/// 0 where `other` is an end of both.
+fn checked_deeper(alloc: Global, inside: u32, other: u128) -> io::Result<u32> {
     if inside == 0 {
         return Err(Error::from(ErrorKind::InvalidInput));
     }
-    match layouts::width_of_two_deeper(alloc, CHECKS, inside) {
+    match layouts::width_of_two_deeper(alloc, CHECKS, inside, other) {
         Ok(width) => Ok(width),
         Err(_) => Err(Error::from(ErrorKind::OutOfMemory)),
     }
@@ -74,7 +75,8 @@ fn main(rt: HostRuntime) -> io::Result<()> {
     match part.as_str() {
         "bits-before" => println!(rt; "{}", checked(alloc, number, 1)?),
         "bits-inside" => println!(rt; "{}", checked(alloc, 1, number)?),
-        "bits-deeper" => println!(rt; "{}", checked_deeper(alloc, number)?),
+        "bits-deeper" => println!(rt; "{}", checked_deeper(alloc, number, 2)?),
+        "bits-shared" => println!(rt; "{}", checked_deeper(alloc, number, 1)?),
         "groups-chain" => println!(rt; "{}", grouped(alloc, Uses::Chain, number)?),
         "groups-ring" => println!(rt; "{}", grouped(alloc, Uses::Ring, number)?),
         "groups-nothing" => println!(rt; "{}", grouped(alloc, Uses::Nothing, number)?),
