@@ -18,5 +18,6 @@ pub mod Placed
 pub mod Refusing
 pub mod RowForms
 pub mod Scoped
+pub mod Staying
 mod TwiceRows
 pub mod Walking

@@ -15,7 +15,7 @@ use Rattle.ddl_names.specs.declared.module_names.ModuleNames.{ModuleNames}
 use Rattle.ddl_names.specs.declared.module_names.Numbered.{Numbered}
 use Rattle.ddl_names.specs.declared.outer.Outer.{Outer}
 use Rattle.ddl_names.specs.Bindings as b
-use Rattle.ddl_names.specs.declared.scope.Scope.{Scope}
+use Rattle.ddl_names.specs.declared.walk.Walk.{Walk}
 use Rattle.ddl_names.specs.Held.{IsScope, at_text, scope_view}
 use Rattle.ddl_names.specs.Findings.{Finding, all_uses, first_refusal}
 
@@ -28,10 +28,6 @@ IsFirst fs r = first_refusal fs ≡ Some r
 abbrev pub Finds : {A : Type 0} → List Finding → List Use → List Use → Result A NameError → Type 0
 Finds fs before after (Ok a) = (first_refusal fs ≡ None) × (after ≡ before ++ all_uses fs)
 Finds fs before after (Err r) = IsFirst fs r
-
--- the same names are in scope
-abbrev pub IsKept : Scope → Scope → Type 0
-IsKept before after = (scope_view after ≡ scope_view before) × IsScope after
 
 -- no rule is found that is not met, or else the refusal is the first that is found
 abbrev pub Refuses : {A : Type 0} → List Finding → Result A NameError → Type 0
@@ -79,3 +75,13 @@ IsOuter outer = AreNames (site_view outer).units outer.names.items
 -- an import that declares the name, and is not this one
 abbrev pub is_other : List b.Loaded → List ℕ → ℕ → ℕ → Bool
 is_other units text first m = not (nat_eq m first) && b.is_declared units text m
+
+-- ---- where a walk stands
+
+-- names mean what they do in its module, and the local ones are those in scope
+abbrev pub IsWalk : Walk → Type 0
+IsWalk walk = IsOuter walk.outer × IsScope walk.scope
+
+-- it stands in the same module, with the same names in scope
+abbrev pub IsKept : Walk → Walk → Type 0
+IsKept before after = (after.outer ≡ before.outer) × (scope_view after.scope ≡ scope_view before.scope) × IsWalk after

@@ -7,48 +7,48 @@ ghost use Rattle.ddl_names.specs.Found.{Finds, IsOuter, site_view};
 ghost use Rattle.ddl_names.specs.Modules.{decl_findings, param_findings, uses_in_each};
 ghost use Rattle.ddl_names.specs.Scope.{param_scope};
 
-use crate::exprs::take_expr;
 use crate::layouts::{take_bits, take_cons};
-use crate::outer::Outer;
 use crate::params::{scope_of, take_params};
 use crate::parts::{take_class, take_typed};
 use crate::scope::Scope;
-use crate::{Kind, NameError, Use, Uses, Want};
+use crate::walk::Walk;
+use crate::{Kind, NameError, Want};
 use ddl_tree::{Decl, Expr, Param, TypeExpr};
-use std::alloc::Global;
 
 // What is found in a declaration of this kind with these parameters, this type and a body of which this is wanted.
 #[tactic(auto, using(crate::proofs::Finding::finding))]
 fn take_definition<'a>(
-    alloc: Global,
-    outer: &Outer<'a>,
-    uses: &mut Vec<Use>,
+    walk: &mut Walk<'a>,
     kind: Kind,
     params: &'a [Param],
     typed: &Option<TypeExpr>,
     want: Want,
     body: &'a Expr,
 ) -> Result<(), NameError>
-    requires { IsOuter outer.now }
-    ensures { let scope = param_scope (map param_view params.now) in Finds (param_findings (site_view outer.now) kind [] scope (map param_view params.now) ++ typed_findings (site_view outer.now) (typed_view typed.now) scope ++ findings (site_view outer.now) (view body.now) want scope) uses.old.items uses.new.items result }
+    requires { IsOuter walk.old.outer }
+    ensures found { let scope = param_scope (map param_view params.now) in Finds (param_findings (site_view walk.old.outer) kind [] scope (map param_view params.now) ++ typed_findings (site_view walk.old.outer) (typed_view typed.now) scope ++ findings (site_view walk.old.outer) (view body.now) want scope) walk.old.uses.items walk.new.uses.items result }
+    ensures here { OnOk result (walk.new.outer ≡ walk.old.outer) }
 {
-    let mut scope = scope_of(alloc, params)?;
-    take_params(alloc, outer, &scope, uses, kind, params)?;
-    take_typed(outer, &scope, uses, typed)?;
-    take_expr(alloc, outer, &mut scope, uses, want, body)?;
+    walk.scope = scope_of(walk.alloc, params)?;
+    take_params(
+        walk.alloc,
+        &walk.outer,
+        &walk.scope,
+        &mut walk.uses,
+        kind,
+        params,
+    )?;
+    take_typed(&walk.outer, &walk.scope, &mut walk.uses, typed)?;
+    walk.take_expr(want, body)?;
     Ok(())
 }
 
 // What is found in a declaration.
 #[tactic(auto, using(crate::proofs::Finding::finding))]
-fn take_decl<'a>(
-    alloc: Global,
-    outer: &Outer<'a>,
-    uses: &mut Vec<Use>,
-    decl: &'a Decl,
-) -> Result<(), NameError>
-    requires { IsOuter outer.now }
-    ensures { Finds (decl_findings (site_view outer.now) (decl_view decl.now)) uses.old.items uses.new.items result }
+fn take_decl<'a>(walk: &mut Walk<'a>, decl: &'a Decl) -> Result<(), NameError>
+    requires { IsOuter walk.old.outer }
+    ensures found { Finds (decl_findings (site_view walk.old.outer) (decl_view decl.now)) walk.old.uses.items walk.new.uses.items result }
+    ensures here { OnOk result (walk.new.outer ≡ walk.old.outer) }
 {
     match decl {
         Decl::Grammar {
@@ -57,16 +57,7 @@ fn take_decl<'a>(
             body,
             ..
         } => {
-            take_definition(
-                alloc,
-                outer,
-                uses,
-                Kind::Grammar,
-                params,
-                typed,
-                Want::Grammar,
-                body,
-            )?;
+            take_definition(walk, Kind::Grammar, params, typed, Want::Grammar, body)?;
             Ok(())
         }
         Decl::Value {
@@ -75,29 +66,20 @@ fn take_decl<'a>(
             body,
             ..
         } => {
-            take_definition(
-                alloc,
-                outer,
-                uses,
-                Kind::Value,
-                params,
-                typed,
-                Want::Value,
-                body,
-            )?;
+            take_definition(walk, Kind::Value, params, typed, Want::Value, body)?;
             Ok(())
         }
         Decl::Class { body, .. } => {
-            let scope = Scope::new(alloc);
-            take_class(outer, &scope, uses, body)?;
+            let scope = Scope::new(walk.alloc);
+            take_class(&walk.outer, &scope, &mut walk.uses, body)?;
             Ok(())
         }
         Decl::Bits { bits, .. } => {
-            take_bits(alloc, outer, uses, bits)?;
+            take_bits(walk.alloc, &walk.outer, &mut walk.uses, bits)?;
             Ok(())
         }
         Decl::BitsUnion { cons, .. } => {
-            take_cons(alloc, outer, uses, cons)?;
+            take_cons(walk.alloc, &walk.outer, &mut walk.uses, cons)?;
             Ok(())
         }
     }
@@ -106,35 +88,35 @@ fn take_decl<'a>(
 // What is found in the next declaration, of which the place of the first use is noted.
 #[tactic(auto, using(crate::proofs::Finding::finding))]
 fn take_next<'a>(
-    alloc: Global,
-    outer: &Outer<'a>,
-    uses: &mut Uses,
+    walk: &mut Walk<'a>,
+    firsts: &mut Vec<usize>,
     decl: &'a Decl,
 ) -> Result<(), NameError>
-    requires { IsOuter outer.now }
-    ensures found { Finds (decl_findings (site_view outer.now) (decl_view decl.now)) uses.old.all.items uses.new.all.items result }
-    ensures first { OnOk result (uses.new.firsts.items ≡ uses.old.firsts.items ++ length uses.old.all.items ∷ []) }
+    requires { IsOuter walk.old.outer }
+    ensures found { Finds (decl_findings (site_view walk.old.outer) (decl_view decl.now)) walk.old.uses.items walk.new.uses.items result }
+    ensures first { OnOk result (firsts.new.items ≡ firsts.old.items ++ length walk.old.uses.items ∷ []) }
+    ensures here { OnOk result (walk.new.outer ≡ walk.old.outer) }
 {
-    let first = uses.all.len();
-    take_decl(alloc, outer, &mut uses.all, decl)?;
-    uses.firsts.push(first)?;
+    let first = walk.uses.len();
+    take_decl(walk, decl)?;
+    firsts.push(first)?;
     Ok(())
 }
 
 /// What is found in the declarations of a module whose names mean this: the uses are added, and the place of the first one of each declaration; or the first refusal is told.
 #[tactic(auto, using(crate::proofs::Finding::finding, crate::proofs::Declared::declared))]
 pub(crate) fn take_decls<'a>(
-    alloc: Global,
-    outer: &Outer<'a>,
-    uses: &mut Uses,
+    walk: &mut Walk<'a>,
+    firsts: &mut Vec<usize>,
     decls: &'a [Decl],
 ) -> Result<(), NameError>
-    requires { IsOuter outer.now }
-    ensures found { Finds (flat_map (decl_findings (site_view outer.now)) (map decl_view decls.now)) uses.old.all.items uses.new.all.items result }
-    ensures firsts { OnOk result (uses.new.firsts.items ≡ uses.old.firsts.items ++ begins (length uses.old.all.items) (uses_in_each (site_view outer.now) (map decl_view decls.now))) }
+    requires { IsOuter walk.old.outer }
+    ensures found { Finds (flat_map (decl_findings (site_view walk.old.outer)) (map decl_view decls.now)) walk.old.uses.items walk.new.uses.items result }
+    ensures firsts { OnOk result (firsts.new.items ≡ firsts.old.items ++ begins (length walk.old.uses.items) (uses_in_each (site_view walk.old.outer) (map decl_view decls.now))) }
+    ensures here { OnOk result (walk.new.outer ≡ walk.old.outer) }
 {
     for decl in decls {
-        take_next(alloc, outer, uses, decl)?;
+        take_next(walk, firsts, decl)?;
     }
     Ok(())
 }

@@ -2,6 +2,7 @@
 #![tactic(auto)]
 
 mod binders;
+mod blocks;
 mod builtin;
 mod declaration;
 mod decls;
@@ -10,6 +11,7 @@ mod exprs;
 mod forms;
 mod kept_decls;
 mod layouts;
+mod lists;
 mod meaning;
 mod module_names;
 mod outer;
@@ -22,6 +24,7 @@ mod scope;
 mod seen;
 mod twice;
 mod uses;
+mod walk;
 mod want;
 
 pub use builtin::BuiltIn;

@@ -9,7 +9,9 @@ ghost use Rattle.ddl_names.specs.Resolves.{AreBound, IsUnbound, loaded};
 use crate::decls::take_decls;
 use crate::module_names::{ModuleNames, names_of};
 use crate::outer::Outer;
+use crate::scope::Scope;
 use crate::twice::{few_enough, names_differ};
+use crate::walk::Walk;
 use crate::{NameError, Uses};
 use ddl_base::NoMemory;
 use ddl_tree::{Decl, SourceUnit};
@@ -27,19 +29,18 @@ fn number_of(place: usize) -> Result<u32, NoMemory>
 
 // The uses in the declarations of the module at this place.
 fn take_module<'a>(
-    alloc: Global,
-    outer: &mut Outer<'a>,
+    walk: &mut Walk<'a>,
+    firsts: &mut Vec<usize>,
     place: usize,
     decls: &'a [Decl],
-    uses: &mut Uses,
 ) -> Result<(), NameError>
-    requires { IsOuter outer.old }
-    ensures found { Finds (flat_map (decl_findings (record { units = (site_view outer.old).units; here = place })) (map decl_view decls.now)) uses.old.all.items uses.new.all.items result }
-    ensures firsts { OnOk result (uses.new.firsts.items ≡ uses.old.firsts.items ++ begins (length uses.old.all.items) (uses_in_each (record { units = (site_view outer.old).units; here = place }) (map decl_view decls.now))) }
-    ensures kept { OnOk result (outer.new ≡ record outer.old { here = place }) }
+    requires { IsOuter walk.old.outer }
+    ensures found { Finds (flat_map (decl_findings (record { units = (site_view walk.old.outer).units; here = place })) (map decl_view decls.now)) walk.old.uses.items walk.new.uses.items result }
+    ensures firsts { OnOk result (firsts.new.items ≡ firsts.old.items ++ begins (length walk.old.uses.items) (uses_in_each (record { units = (site_view walk.old.outer).units; here = place }) (map decl_view decls.now))) }
+    ensures kept { OnOk result (walk.new.outer ≡ record walk.old.outer { here = place }) }
 {
-    outer.here = number_of(place)?;
-    take_decls(alloc, outer, uses, decls)?;
+    walk.outer.here = number_of(place)?;
+    take_decls(walk, firsts, decls)?;
     Ok(())
 }
 
@@ -56,19 +57,22 @@ fn take_modules<'a>(
     ensures firsts { IfOk result (λ uses. uses.firsts.items ≡ begins 0 (uses_of_each (loaded units.now))) }
     ensures refused { IfErr result (IsFirst (findings_from (loaded units.now) 0 (loaded units.now))) }
 {
-    let mut uses = Uses {
-        all: Vec::new(alloc),
-        firsts: Vec::new(alloc),
+    let mut walk = Walk {
+        alloc,
+        outer: Outer {
+            units,
+            here: 0,
+            names,
+        },
+        scope: Scope::new(alloc),
+        uses: Vec::new(alloc),
     };
-    let mut outer = Outer {
-        units,
-        here: 0,
-        names,
-    };
+    let mut firsts = Vec::new(alloc);
     for (place, unit) in units.iter().enumerate() {
-        take_module(alloc, &mut outer, place, &unit.tree.decls, &mut uses)?;
+        take_module(&mut walk, &mut firsts, place, &unit.tree.decls)?;
     }
-    Ok(uses)
+    let Walk { uses, .. } = walk;
+    Ok(Uses { all: uses, firsts })
 }
 
 /// The uses of names in these modules, each with what binds it, and where those in each declaration begin; or the first rule that is not met. Unit 0 is the prelude.

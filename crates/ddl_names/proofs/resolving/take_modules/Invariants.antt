@@ -9,9 +9,9 @@ use Rattle.ddl_names.proofs.resolving.take_modules.Given as goal
 abbrev pub invariant-loop-place : goal.invariant-loop-place
 invariant-loop-place l =
     record {
-      among : l.outer.units.now ≡ l.units;
-      named : AreNames (loaded l.units) l.outer.names.items;
+      among : l.walk.outer.units.now ≡ l.units;
+      named : AreNames (loaded l.units) l.walk.outer.names.items;
       rest : first_refusal (findings_from (loaded l.units) l.place (loaded (drop l.place l.units))) ≡ first_refusal (findings_from (loaded l.units) 0 (loaded l.units));
-      taken : l.uses.all.items ++ all_uses (findings_from (loaded l.units) l.place (loaded (drop l.place l.units))) ≡ all_uses (findings_from (loaded l.units) 0 (loaded l.units));
-      firsts : l.uses.firsts.items ++ begins (length l.uses.all.items) (uses_from (loaded l.units) l.place (loaded (drop l.place l.units))) ≡ begins 0 (uses_of_each (loaded l.units));
+      taken : l.walk.uses.items ++ all_uses (findings_from (loaded l.units) l.place (loaded (drop l.place l.units))) ≡ all_uses (findings_from (loaded l.units) 0 (loaded l.units));
+      firsts : l.firsts.items ++ begins (length l.walk.uses.items) (uses_from (loaded l.units) l.place (loaded (drop l.place l.units))) ≡ begins 0 (uses_of_each (loaded l.units));
     }
