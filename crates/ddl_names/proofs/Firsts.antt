@@ -59,6 +59,6 @@ as_many units n (u ∷ us) =
     site = record { units = units; here = n }
 
 pub have_firsts : (us : List SourceUnit) (found : Uses) → AreBound us found → HaveFirsts us found
-have_firsts us found h = sym (length_cut found.all.items found.firsts.items) ∙ ap length h.2 ∙ as_many (loaded us) 0 us
+have_firsts us found h = sym (length_cut found.all.items found.firsts.items) ∙ ap length h.3 ∙ as_many (loaded us) 0 us
 
 pub ruleset firsts = (have_firsts, none_first)

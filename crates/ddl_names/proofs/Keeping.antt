@@ -63,7 +63,8 @@ resolved us found r bound kept = (
   kept.0,
   kept.1,
   kept.2 ∙ bound.1,
-  ap (λ xs. cut_at xs (firsts_of r.decls.items)) kept.2 ∙ ap (cut_at found.all.items) kept.3 ∙ bound.2,
+  kept.3 ∙ bound.2,
+  ap (λ xs. cut_at xs (firsts_of r.decls.items)) kept.2 ∙ ap (cut_at found.all.items) kept.3 ∙ bound.3,
 )
 
 pub none_left : {X : Type 0} (xs : List X) → length xs ≡ 0 → xs ≡ []

@@ -12,16 +12,18 @@ use Rattle.ddl_names.specs.Scope.{param_kind}
 use Rattle.ddl_names.specs.Bindings.{Loaded, decl_kind, decl_name, decl_params}
 use Rattle.ddl_names.specs.Found.{IsFirst, unit_view}
 use Rattle.ddl_names.specs.Modules.{all_findings, refusal, uses_in, uses_of_each}
-use Rattle.ddl_names.specs.Cutting.{cut_at}
+use Rattle.ddl_names.specs.Cutting.{begins, cut_at}
 
 -- the modules of the definitions that these are
 abbrev pub loaded : List SourceUnit → List Loaded
 loaded us = map unit_view us
 
--- each rule is met, and these are the uses in the modules, with what binds them, and those in each declaration
+-- each rule is met, and these are the uses in the modules, with what binds them, where those of each declaration begin, and
+-- those in each declaration
 abbrev pub AreBound : List SourceUnit → Uses → Type 0
 AreBound us found =
-    (refusal (loaded us) ≡ None) × (found.all.items ≡ uses_in (loaded us)) × (cut_at found.all.items found.firsts.items ≡ uses_of_each (loaded us))
+    (refusal (loaded us) ≡ None) × (found.all.items ≡ uses_in (loaded us)) × (found.firsts.items ≡ begins 0 (uses_of_each (loaded us)))
+    × (cut_at found.all.items found.firsts.items ≡ uses_of_each (loaded us))
 
 -- the first rule that is not met; where memory ran out nothing is said
 abbrev pub IsUnbound : List SourceUnit → NameError → Type 0
@@ -72,8 +74,9 @@ IsResolved us found r =
     (r.units.items ≡ map (λ u. u.name) us) × (map info_view r.decls.items ≡ infos_from 0 (loaded us)) × (r.uses.items ≡ found.all.items)
     × (firsts_of r.decls.items ≡ found.firsts.items)
 
--- the modules, where each rule is met, with the uses in them, and those in each declaration
+-- the modules, where each rule is met, with the uses in them, where those of each declaration begin, and those in each declaration
 abbrev pub AreResolved : List SourceUnit → Resolved → Type 0
 AreResolved us r =
     (refusal (loaded us) ≡ None) × (r.units.items ≡ map (λ u. u.name) us) × (map info_view r.decls.items ≡ infos_from 0 (loaded us))
-    × (r.uses.items ≡ uses_in (loaded us)) × (cut_at r.uses.items (firsts_of r.decls.items) ≡ uses_of_each (loaded us))
+    × (r.uses.items ≡ uses_in (loaded us)) × (firsts_of r.decls.items ≡ begins 0 (uses_of_each (loaded us)))
+    × (cut_at r.uses.items (firsts_of r.decls.items) ≡ uses_of_each (loaded us))

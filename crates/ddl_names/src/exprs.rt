@@ -2,7 +2,7 @@ ghost use Rattle.std.specs.Prelude.{◌++◌, OnOk, option_map};
 ghost use Rattle.ddl_tree.specs.View.{class_view, type_view, view, exprs_view};
 ghost use Rattle.ddl_names.specs.Bindings.{meaning};
 ghost use Rattle.ddl_names.specs.Findings.{fits, name_use, wants};
-ghost use Rattle.ddl_names.specs.Forms.{alternatives, arguments, class_findings, count, findings, items, type_findings, typed_findings};
+ghost use Rattle.ddl_names.specs.Forms.{arguments, class_findings, count, findings, type_findings, typed_findings};
 ghost use Rattle.ddl_names.specs.Found.{Finds, IsKept, IsWalk, site_view};
 ghost use Rattle.ddl_names.specs.Held.{scope_view};
 

@@ -1,6 +1,6 @@
 ghost use Rattle.std.specs.Prelude.{◌≡◌, ◌++◌, OnOk, [], ◌∷◌};
 ghost use Rattle.ddl_tree.specs.View.{view, bound_view, alternatives_view, exprs_view, bindings_view};
-ghost use Rattle.ddl_names.specs.Findings.{again, fits, wants};
+ghost use Rattle.ddl_names.specs.Findings.{again, fits};
 ghost use Rattle.ddl_names.specs.Forms.{alternatives, arguments, bindings, bound_findings, each, findings};
 ghost use Rattle.ddl_names.specs.Found.{Finds, IsKept, IsWalk, site_view, wants_view};
 ghost use Rattle.ddl_names.specs.Held.{IsSeen, scope_view, seen_view};
