@@ -34,3 +34,6 @@ pub use kept_decls::resolve;
 pub use resolved::{Bound, DeclInfo, Resolved, Use, Uses};
 pub use resolving::bindings;
 pub use want::Want;
+
+#[cfg(test)]
+mod tests;
