@@ -1,5 +1,5 @@
 -- The map that bindings stand for, and why reading a type ends.
-use Rattle.std.proofs.Common.{◌≡◌, ℕ, ◌+◌, ◌*◌, ◌<◌, ◌≤◌, List, [], ◌∷◌, refl, sym, ap, ◌∙◌, arith, inl, inr, map, length, get_or, zero, suc}
+use Rattle.std.proofs.Common.{◌≡◌, ℕ, ◌+◌, ◌*◌, ◌<◌, ◌≤◌, List, [], ◌∷◌, refl, sym, ap, ◌∙◌, arith, inl, inr, map, length, get_or, zero, suc, MatchOption}
 use Rattle.ddl_types.specs.declared.ty.Ty as program
 use Rattle.ddl_types.specs.Types.{Head, Ty, Tys, Ty.var, Ty.con, Tys.none, Tys.more, Sub, on, on_all, tys_of}
 use Rattle.ddl_types.specs.TyView.{ty_view}
@@ -8,7 +8,8 @@ use Rattle.ddl_unify.specs.declared.store.Bound.{Bound}
 use Rattle.ddl_unify.specs.View.{bounds}
 use Rattle.ddl_unify.specs.Kept.{Kept}
 use Rattle.ddl_unify.specs.Solving.{Followed}
-use Rattle.ddl_unify.specs.Occurs.{one, count, count_all}
+use Rattle.ddl_unify.specs.State.{IsFree}
+use Rattle.ddl_unify.specs.Occurs.{one, count, count_all, is_var}
 use Rattle.ddl_unify.specs.Equations.{Equation, Solves, MostGeneral}
 use Rattle.ddl_unify.specs.Bindings.{Binding, solution, Agrees, Unbound, Binds, Sound}
 use Rattle.ddl_unify.specs.Measures.{weighed, weighed_all, cost}
@@ -118,6 +119,13 @@ followed_read place xs v t u k h f = f.same ∙ sym (kept_read place xs v t k h)
 pub followed_less : (place : List ℕ) (xs : List Bound) (v : ℕ) (t u : Ty) → Kept place xs → Binds (bounds xs) v t → Followed xs t u → weighed u (cost (bounds xs)) < cost (bounds xs) v
 followed_less place xs v t u k h f = omega (arith, kept_less place xs v t k h, f.lighter)
 
+-- a chain ends in a type that the solution leaves a variable, or that is none
+pub ends_free : (xs : List Bound) (t : Ty) → MatchOption (is_var t) (Unit {0}) (λ v. Unbound v (bounds xs)) → IsFree t (solution (bounds xs))
+ends_free xs (var v) u = unbound_read (bounds xs) v u
+ends_free xs (con h ts) u = tt
+
 pub ruleset reads = (read_place, unbound_read, kept_read, kept_less, followed_read, followed_less)
 
 pub ruleset follows = (followed_first, followed_more, kept_less)
+
+pub ruleset ends = (ends_free)

@@ -9,6 +9,7 @@ ghost use Rattle.ddl_unify.specs.Bindings.{Binds, Unbound, solution};
 ghost use Rattle.ddl_unify.specs.View.{bounds};
 ghost use Rattle.ddl_unify.specs.Kept.{Kept};
 ghost use Rattle.ddl_unify.specs.Solving.{Followed};
+ghost use Rattle.ddl_unify.specs.State.{IsFree};
 
 use crate::store::Bound;
 use ddl_base::NoMemory;
@@ -47,6 +48,16 @@ pub fn followed<'a>(place: &[u32], trail: &'a [Bound], t: &'a Ty) -> &'a Ty
         }
     }
     at
+}
+
+/// The type at the end of a chain of bound variables.
+#[tactic(auto, using(crate::proofs::ReadingLemmas::ends))]
+pub fn head<'a>(place: &[u32], trail: &'a [Bound], t: &'a Ty) -> &'a Ty
+    requires { Kept place.now trail.now }
+    ensures same { on (ty_view result.now) (solution (bounds trail.now)) ≡ on (ty_view t.now) (solution (bounds trail.now)) }
+    ensures free { IsFree (ty_view result.now) (solution (bounds trail.now)) }
+{
+    followed(place, trail, t)
 }
 
 /// The variable that is not bound and that a type is read as, if it is one.

@@ -98,6 +98,8 @@ fn clashes_are_told_with_whole_sides(rt: HostRuntime) -> Result<(), Fail> {
             .is_ok()
     );
     assert!(rt; solver.equate(&Ty::Var(1), &Ty::Int).is_ok());
+    assert!(rt; same(solver.head(&Ty::Var(0)), &array(alloc, Ty::Var(1))?));
+    assert!(rt; same(solver.head(&Ty::Var(2)), &Ty::Var(2)));
     let bools = array(alloc, Ty::Bool)?;
     let answer = solver.equate(&Ty::Var(0), &bools);
     assert!(rt; clashes(&answer, &array(alloc, Ty::Int)?, &bools));

@@ -10,7 +10,7 @@ ghost use Rattle.ddl_unify.specs.Kept.{Kept, Holding};
 ghost use Rattle.ddl_unify.specs.Named.{Named};
 ghost use Rattle.ddl_unify.specs.Solving.{Back};
 ghost use Rattle.ddl_unify.specs.Refused.{Refused};
-ghost use Rattle.ddl_unify.specs.State.{accepted, solution, variables};
+ghost use Rattle.ddl_unify.specs.State.{accepted, solution, variables, IsFree};
 ghost use Rattle.ddl_unify.specs.declared.store.Pair.{Pair};
 ghost use Rattle.ddl_unify.specs.declared.store.Bound.{Bound};
 
@@ -115,6 +115,16 @@ impl Solver {
         ensures type_read { IfOk result (λ r. ty_view r ≡ on (ty_view t.now) (solution self.now)) }
     {
         reading::read(self.alloc, &self.place, &self.trail, t)
+    }
+
+    /// What stands at the head of a type: the type itself, or what its variable is bound to, until
+    /// that is no bound variable. Parts are as they were stored.
+    pub fn head<'a>(&'a self, t: &'a Ty) -> &'a Ty
+        ensures most { MostGeneral (accepted self.now) (solution self.now) }
+        ensures same { on (ty_view result.now) (solution self.now) ≡ on (ty_view t.now) (solution self.now) }
+        ensures free { IsFree (ty_view result.now) (solution self.now) }
+    {
+        reading::head(&self.place, &self.trail, t)
     }
 }
 
