@@ -1,13 +1,16 @@
 //! The text of a module: a line for each import and each declaration.
 #![tactic(auto)]
 
+mod blocks;
 mod classes;
 mod decls;
 mod digits;
 mod exprs;
 mod law;
 mod lines;
+mod lists;
 mod literals;
+mod loops;
 mod operators;
 mod patterns;
 #[cfg(test)]
