@@ -4,12 +4,6 @@ use Rattle.std.proofs.lemmas.List.{drop_min, length-drop, take_min}
 use Rattle.std.proofs.Math.Seq.{take-length}
 use Rattle.ddl_names.specs.Cutting.{cut_at}
 
--- it has as many parts as places
-pub cut_long : {A : Type 0} (xs : List A) (fs : List ℕ) → length (cut_at xs fs) ≡ length fs
-cut_long xs [] = refl
-cut_long xs (f ∷ []) = refl
-cut_long xs (f ∷ g ∷ fs) = ap suc (cut_long xs (g ∷ fs))
-
 -- a part that another follows
 pub cut_inner : {A : Type 0} (xs : List A) (fs : List ℕ) (k : ℕ) → suc k < length fs → get_or (cut_at xs fs) k [] ≡ take (get_or fs (suc k) 0 - get_or fs k 0) (drop (get_or fs k 0) xs)
 cut_inner xs [] k l = absurd (omega arith)

@@ -12,10 +12,11 @@ use Rattle.ddl_names.specs.declared.resolved.DeclInfo.{DeclInfo}
 use Rattle.ddl_names.specs.declared.resolved.Use.{Use}
 use Rattle.ddl_names.specs.Cutting.{cut_at}
 use Rattle.ddl_names.specs.Resolves.{firsts_of}
+use Rattle.ddl_names.proofs.Firsts.{length_cut}
 use Rattle.ddl_groups.specs.Needs.{declared, listed, needs_in, needs_of}
 use Rattle.ddl_groups.specs.Ordered.{AreDeclared}
 use Rattle.ddl_groups.specs.Placing.{lists_of}
-use Rattle.ddl_groups.proofs.CutAt.{cut_inner, cut_last, cut_long, rest_is, sliced}
+use Rattle.ddl_groups.proofs.CutAt.{cut_inner, cut_last, rest_is, sliced}
 
 -- what one more use adds
 pub needs_more : (count : ℕ) (us : List Use) (k : ℕ) (d : Use) → k < length us → needs_in count (take (k + 1) us) ≡ needs_in count (take k us) ++ listed (declared count (get_or us k d).bound)
@@ -54,10 +55,10 @@ last_uses ds us k m d l last em =
 
 module _ (ds : List DeclInfo) (us : List Use) where
   needs_long : length (needs_of ds us) ≡ length ds
-  needs_long = length-map (cut_at us (firsts_of ds)) (needs_in (length ds)) ∙ cut_long us (firsts_of ds) ∙ firsts_long ds
+  needs_long = length-map (cut_at us (firsts_of ds)) (needs_in (length ds)) ∙ length_cut us (firsts_of ds) ∙ firsts_long ds
 
   need_at : (k : ℕ) → k < length ds → get_or (needs_of ds us) k [] ≡ needs_in (length ds) (get_or (cut_at us (firsts_of ds)) k [])
-  need_at k l = get_or-map (needs_in (length ds)) (cut_at us (firsts_of ds)) k [] [] (rw (cut_long us (firsts_of ds), firsts_long ds) l)
+  need_at k l = get_or-map (needs_in (length ds)) (cut_at us (firsts_of ds)) k [] [] (rw (length_cut us (firsts_of ds), firsts_long ds) l)
 
   -- one more declaration
   pub needs_push : (vs : List (Vec ℕ Global)) (k : ℕ) (v : Vec ℕ Global) → k < length ds → lists_of vs ≡ take k (needs_of ds us)

@@ -43,7 +43,8 @@ all_first firsts us kept e room first =
 
 -- ---- a first use for each declaration
 
-length_cut : {A : Type 0} (xs : List A) (fs : List ℕ) → length (cut_at xs fs) ≡ length fs
+-- a list that is cut at places has as many parts
+pub length_cut : {A : Type 0} (xs : List A) (fs : List ℕ) → length (cut_at xs fs) ≡ length fs
 length_cut xs [] = refl
 length_cut xs (f ∷ []) = refl
 length_cut xs (f ∷ g ∷ fs) = ap suc (length_cut xs (g ∷ fs))
