@@ -1,6 +1,6 @@
 //! A solver: the equations that it accepted, and a most general solution of them.
 
-ghost use Rattle.std.specs.Prelude.{◌≡◌, ◌<◌, ◌+◌, ◌-◌, ◌^◌, ◌++◌, ◌∷◌, [], List, length, ◌≤◌, IfOk, IfErr, OnErr, MatchResult};
+ghost use Rattle.std.specs.Prelude.{◌≡◌, ◌<◌, ◌+◌, ◌-◌, ◌^◌, ◌++◌, ◌∷◌, [], List, length, ◌≤◌, IfOk, IfErr, OnErr, MatchResult, nat_le};
 ghost use Rattle.ddl_types.specs.Types.{Below, on};
 ghost use Rattle.ddl_types.specs.TyView.{ty_view};
 ghost use Rattle.ddl_unify.specs.Equations.{equal, MostGeneral};
@@ -71,6 +71,13 @@ impl Solver {
             named: Vec::new(alloc),
             accepted: Vec::new(alloc),
         }
+    }
+
+    /// Whether there are as many variables as there may be: 2^32 - 1.
+    pub fn is_full(&self) -> bool
+        ensures { result ≡ nat_le (2 ^ 32 - 1) (variables self.now) }
+    {
+        self.place.len() >= u32::MAX as usize
     }
 
     /// The next variable: its number is that of the variables before.
