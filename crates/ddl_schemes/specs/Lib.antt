@@ -1,0 +1,7 @@
+pub mod FoundView
+pub mod Laws
+pub mod Order
+pub mod Owed
+pub mod Renaming
+pub mod SharedParts
+pub mod Steps

@@ -1,0 +1,16 @@
+//! The variables of a group's types, and its types for all types of these.
+#![tactic(auto)]
+
+mod found;
+mod laws;
+mod numbering;
+mod reading;
+mod renaming;
+mod sharing;
+mod walk;
+
+pub use laws::numbering_law;
+pub use numbering::Numbering;
+
+#[cfg(test)]
+mod tests;
