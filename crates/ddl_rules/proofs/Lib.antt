@@ -1,0 +1,4 @@
+pub mod Composed
+pub mod Matched
+mod RuleRows
+pub mod Scoping

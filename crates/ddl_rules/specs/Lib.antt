@@ -1,0 +1,10 @@
+pub mod Asks
+pub mod BuiltInTypes
+pub mod ClassForms
+pub mod Operators
+pub mod Patterns
+pub mod Refusing
+pub mod Steps
+pub mod Targets
+pub mod Views
+pub mod Writing
