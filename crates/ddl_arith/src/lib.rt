@@ -6,8 +6,6 @@ mod casts;
 mod exact;
 mod operation;
 mod signed;
-#[cfg(test)]
-mod tests;
 mod unsigned;
 
 pub use casts::{cut, join, keep};

@@ -1,5 +1,5 @@
 /// An operation on two numbers of one type; the right side of a shift is a `uint 64`.
-#[derive(Clone, Copy, Debug, PartialEq, Eq)]
+#[derive(Clone, Copy, PartialEq, Eq)]
 pub enum Op {
     Add,
     Sub,

@@ -18,6 +18,3 @@ pub use stage::Stage;
 pub use steps::Steps;
 pub use told::Told;
 pub use why::Why;
-
-#[cfg(test)]
-mod tests;

@@ -1,5 +1,5 @@
 /// The step of reading a specification that refuses it, in the order in which they are taken.
-#[derive(Clone, Copy, Debug, PartialEq, Eq)]
+#[derive(Clone, Copy, PartialEq, Eq)]
 pub enum Stage {
     /// Modules with their imports.
     Load,

@@ -1,7 +1,7 @@
 use crate::{Bytes, Stage};
 
 /// What a refusal line shows. `from` and `to` are offsets in bytes in the text of the module.
-#[derive(Debug, Drop)]
+#[derive(Drop)]
 pub struct Told {
     pub stage: Stage,
     /// The cause, by its place among the causes of its stage, from 1 on.

@@ -1,5 +1,5 @@
 /// Why a grammar gave no parse. The words are those of the failure line.
-#[derive(Clone, Copy, Debug, PartialEq, Eq)]
+#[derive(Clone, Copy, PartialEq, Eq)]
 pub enum Why {
     /// `UInt8` at the end of the stream.
     Byte,

@@ -7,7 +7,7 @@ use crate::layout::Layout;
 use crate::places::first_that_fits;
 
 /// A layout whose constructors have this one width, of at most 128 bits, of which no number fits two.
-#[derive(Debug, Drop)]
+#[derive(Drop)]
 pub struct Checked {
     pub layout: Layout,
     pub width: u32,

@@ -2,14 +2,14 @@ use ddl_base::Bytes;
 
 /// The bits of a bitdata: its constructors, of which there is at least one.
 #[cycle(layout)]
-#[derive(Debug, Drop)]
+#[derive(Drop)]
 pub struct Layout {
     pub cons: Vec<LayoutCon>,
 }
 
 /// A constructor: its parts, at least one, of which the first holds the most significant bits.
 #[cycle(layout)]
-#[derive(Debug, Drop)]
+#[derive(Drop)]
 pub struct LayoutCon {
     /// Empty for the one constructor of a bitdata that is written with `=`.
     pub name: Bytes,
@@ -18,7 +18,7 @@ pub struct LayoutCon {
 
 /// Some bits in a row. A width is at least 1.
 #[cycle(layout)]
-#[derive(Debug, Drop)]
+#[derive(Drop)]
 pub enum LayoutPart {
     /// Bits that are given. A number of 2^width or more fits nothing.
     Fixed {

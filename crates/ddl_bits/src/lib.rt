@@ -20,8 +20,6 @@ mod overlap;
 mod places;
 mod ranges;
 mod stepping;
-#[cfg(test)]
-mod tests;
 mod verdict;
 mod widths;
 

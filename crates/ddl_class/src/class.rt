@@ -4,7 +4,7 @@ ghost use Rattle.std.specs.List.{prefix_len};
 ghost use Rattle.std.specs.Prelude.{◌≡◌, false, not, ◌||◌, ◌^◌, ◌-◌, ◌≤◌, nat_lt};
 
 /// A set of bytes. Contracts see it by the test `contains`.
-#[derive(Clone, Copy, Debug, PartialEq, Eq)]
+#[derive(Clone, Copy, PartialEq, Eq)]
 pub struct Class {
     /// Bit `byte % 64` of word `byte / 64` is set where the byte is in.
     words: [u64; 4],

@@ -2,7 +2,5 @@
 #![tactic(auto)]
 
 mod class;
-#[cfg(test)]
-mod tests;
 
 pub use class::Class;

@@ -23,6 +23,3 @@ pub use ddl_token::{Base, Mark, Tok, Token, Word};
 pub use error::LexError;
 pub use laws::lex_law;
 pub use lexer::lex;
-
-#[cfg(test)]
-mod tests;

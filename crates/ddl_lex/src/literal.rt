@@ -5,7 +5,7 @@ ghost use Rattle.ddl_lex.specs.Literals as literals;
 use crate::letters::is_control;
 
 /// What stands next inside a literal.
-#[derive(Clone, Copy, Debug, PartialEq, Eq)]
+#[derive(Clone, Copy, PartialEq, Eq)]
 pub enum Element {
     /// A byte or an escape: the byte that it means, and how many bytes it takes.
     Means(u8, usize),

@@ -2,7 +2,7 @@ ghost use Rattle.std.specs.Prelude.{◌≡◌, ◌<◌, ◌≤◌, ◌+◌, ◌*
 ghost use Rattle.ddl_lex.specs.Places.{column_after, column_behind, line_behind};
 
 /// A place in a text: how many bytes stand before it, and its line and column from 0.
-#[derive(Clone, Copy, Debug, PartialEq, Eq)]
+#[derive(Clone, Copy, PartialEq, Eq)]
 pub struct Place {
     pub at: u32,
     pub line: u32,

@@ -5,7 +5,7 @@ use crate::place::Place;
 use ddl_token::{Mark, Tok, Token, Word};
 
 /// What a token does to the brackets.
-#[derive(Clone, Copy, Debug, PartialEq, Eq)]
+#[derive(Clone, Copy, PartialEq, Eq)]
 pub enum Role {
     Opens,
     Closes,
@@ -15,7 +15,7 @@ pub enum Role {
 }
 
 /// What is remembered of the last token.
-#[derive(Clone, Copy, Debug, PartialEq, Eq)]
+#[derive(Clone, Copy, PartialEq, Eq)]
 pub struct Last {
     /// It is a word that a list of items follows.
     pub begins_items: bool,

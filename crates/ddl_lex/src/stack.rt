@@ -3,14 +3,14 @@ use std::alloc::Global;
 use std::marker::Model;
 
 /// What is open: a list of items with its column, or a bracket.
-#[derive(Clone, Copy, Debug, PartialEq, Eq)]
+#[derive(Clone, Copy, PartialEq, Eq)]
 pub enum Open {
     Items(u32),
     Bracket,
 }
 
 /// What is open, seen with the innermost first.
-#[derive(Debug, Drop)]
+#[derive(Drop)]
 pub struct Stack {
     open: Vec<Open>,
     /// How many of them are brackets.

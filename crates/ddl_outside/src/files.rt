@@ -3,7 +3,7 @@ ghost use Rattle.ddl_outside.specs.Files.{FilesState, IsTold, HasLength, reach_a
 ghost use Rattle.ddl_outside.specs.Files.{Later, TouchesOnly, IsLength, IsPiece};
 
 /// What is known of a file's length.
-#[derive(Clone, Copy, Debug, PartialEq, Eq)]
+#[derive(Clone, Copy, PartialEq, Eq)]
 pub enum Length {
     /// The length in bytes, which stays the answer for this name.
     Bytes(u64),
@@ -16,7 +16,7 @@ pub enum Length {
 }
 
 /// What a read of a file gave.
-#[derive(Clone, Copy, Debug, PartialEq, Eq)]
+#[derive(Clone, Copy, PartialEq, Eq)]
 pub enum Piece {
     /// So many bytes, at least one.
     Got(usize),

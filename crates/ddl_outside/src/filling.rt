@@ -5,7 +5,7 @@ ghost use Rattle.ddl_outside.specs.Filling.{IsFill, ReadsBelow};
 use crate::{Files, Piece};
 
 /// How a buffer was filled.
-#[derive(Clone, Copy, Debug, PartialEq, Eq)]
+#[derive(Clone, Copy, PartialEq, Eq)]
 pub enum Filled {
     /// Each byte is the file's.
     Whole,

@@ -23,6 +23,3 @@ pub use refusal::Refusal;
 pub use sink::{Sink, Took};
 pub use whole_file::{Whole, read_whole};
 pub use writing::{Written, write_lines, write_whole};
-
-#[cfg(test)]
-mod tests;

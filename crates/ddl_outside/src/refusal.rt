@@ -1,7 +1,7 @@
 use ddl_base::{Bytes, NoMemory, Told};
 
 /// Why a specification is not accepted, or cannot be read.
-#[derive(Debug, Drop)]
+#[derive(Drop)]
 pub enum Refusal {
     /// This file is not there.
     Missing(Bytes),

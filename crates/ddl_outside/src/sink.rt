@@ -2,7 +2,7 @@ ghost use Rattle.std.specs.Prelude.{◌<◌, length};
 ghost use Rattle.ddl_outside.specs.Sink.{SinkState, IsTook};
 
 /// What a write took.
-#[derive(Clone, Copy, Debug, PartialEq, Eq)]
+#[derive(Clone, Copy, PartialEq, Eq)]
 pub enum Took {
     /// So many of the first bytes, at least one.
     Took(usize),

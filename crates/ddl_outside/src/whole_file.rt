@@ -7,7 +7,7 @@ use ddl_base::NoMemory;
 use std::alloc::Global;
 
 /// A whole file, or why its bytes are not here.
-#[derive(Debug, Drop)]
+#[derive(Drop)]
 pub enum Whole {
     Bytes(Vec<u8>),
     /// The file has more bytes than were asked for: so many. None of them was read.

@@ -5,7 +5,7 @@ use crate::{Sink, Took};
 use ddl_base::Bytes;
 
 /// How bytes were written.
-#[derive(Clone, Copy, Debug, PartialEq, Eq)]
+#[derive(Clone, Copy, PartialEq, Eq)]
 pub enum Written {
     /// All of them.
     Whole,

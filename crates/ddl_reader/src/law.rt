@@ -50,15 +50,3 @@ pub fn machine_knows_the_least_depth()
     ensures depth { (xs : List Seen) (z : State) (a : tree.Module) → reach xs begun ≡ Some z
         → finish z.1 z.0 ≡ Some a → module_depth a ≡ lowest z }
 {}
-
-#[cfg(test)]
-mod tests {
-    use super::*;
-
-    #[test]
-    fn the_laws_can_be_called() {
-        prints_tell_modules_apart();
-        machine_reads_modules_exactly();
-        machine_knows_the_least_depth();
-    }
-}

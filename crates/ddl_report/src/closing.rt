@@ -12,7 +12,7 @@ use serde_json::{Map, Value, put};
 use std::alloc::Global;
 
 /// What ends a run or a check, or stops it. Offsets are in bytes, `from` and `to` those of a span in a module's text.
-#[derive(Debug, Drop)]
+#[derive(Drop)]
 pub enum Closing {
     /// The end, after this number of parses.
     Parses {

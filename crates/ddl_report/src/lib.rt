@@ -12,6 +12,3 @@ mod values;
 pub use closing::{Closing, closing_line};
 pub use line::line_of_parse;
 pub use refusal::refusal_line;
-
-#[cfg(test)]
-mod tests;

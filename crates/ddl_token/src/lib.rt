@@ -8,6 +8,3 @@ mod word;
 pub use mark::Mark;
 pub use token::{Base, Tok, Token};
 pub use word::Word;
-
-#[cfg(test)]
-mod tests;

@@ -5,7 +5,7 @@ use ddl_base::{Bytes, NoMemory};
 use std::alloc::Global;
 
 /// The base in which a number is written.
-#[derive(Clone, Copy, Debug, PartialEq, Eq)]
+#[derive(Clone, Copy, PartialEq, Eq)]
 pub enum Base {
     /// Digits alone.
     Decimal,
@@ -16,7 +16,7 @@ pub enum Base {
 }
 
 /// What a token is. A name holds its whole spelling; of a class that includes the `$`.
-#[derive(Debug, Drop)]
+#[derive(Drop)]
 pub enum Tok {
     Word(Word),
     Mark(Mark),
@@ -65,7 +65,7 @@ impl Tok {
 }
 
 /// A token and its place in the text of its module.
-#[derive(Debug, Drop)]
+#[derive(Drop)]
 pub struct Token {
     pub kind: Tok,
     /// The line of its first byte, from 0.

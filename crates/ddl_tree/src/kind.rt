@@ -1,5 +1,5 @@
 /// What a name stands for.
-#[derive(Clone, Copy, Debug, PartialEq, Eq)]
+#[derive(Clone, Copy, PartialEq, Eq)]
 pub enum Kind {
     /// A parser: the name begins with a capital letter.
     Grammar,

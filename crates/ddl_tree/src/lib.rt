@@ -9,8 +9,6 @@ mod module;
 mod name;
 mod operator;
 mod pattern;
-#[cfg(test)]
-mod tests;
 mod types;
 
 pub use class::Cls;

@@ -9,7 +9,7 @@ pub struct Module {
 }
 
 /// `import Name`. The span holds both words, the name has its own.
-#[derive(Debug, Drop)]
+#[derive(Drop)]
 pub struct Import {
     pub name: Name,
     pub span: Span,

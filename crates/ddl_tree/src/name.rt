@@ -2,14 +2,14 @@ use ddl_base::{Bytes, Span};
 use ddl_token::Base;
 
 /// A name, as its token spells it: the name of a class begins with `$`.
-#[derive(Debug, Drop)]
+#[derive(Drop)]
 pub struct Name {
     pub text: Bytes,
     pub span: Span,
 }
 
 /// A number, as it is written.
-#[derive(Clone, Copy, Debug, PartialEq, Eq)]
+#[derive(Clone, Copy, PartialEq, Eq)]
 pub struct Number {
     pub value: u128,
     pub base: Base,
@@ -19,7 +19,7 @@ pub struct Number {
 }
 
 /// A byte of a class: `65` or `'A'`.
-#[derive(Clone, Copy, Debug, PartialEq, Eq)]
+#[derive(Clone, Copy, PartialEq, Eq)]
 pub enum ByteLit {
     Code(Number),
     Quoted { value: u8, span: Span },

@@ -1,5 +1,5 @@
 /// An operator between two expressions, in order of their nonterminals.
-#[derive(Clone, Copy, Debug, PartialEq, Eq)]
+#[derive(Clone, Copy, PartialEq, Eq)]
 pub enum InfixOp {
     /// `|`: both alternatives, in order. It groups to the right.
     Either,
@@ -48,7 +48,7 @@ pub enum InfixOp {
 }
 
 /// An operator before an expression.
-#[derive(Clone, Copy, Debug, PartialEq, Eq)]
+#[derive(Clone, Copy, PartialEq, Eq)]
 pub enum PrefixOp {
     /// `-`
     Negate,
@@ -59,7 +59,7 @@ pub enum PrefixOp {
 }
 
 /// How a value goes to another type.
-#[derive(Clone, Copy, Debug, PartialEq, Eq)]
+#[derive(Clone, Copy, PartialEq, Eq)]
 pub enum CastOp {
     /// `as`: no value is lost.
     Lossless,
@@ -70,7 +70,7 @@ pub enum CastOp {
 }
 
 /// Whether a choice is committed to the first alternative that succeeds.
-#[derive(Clone, Copy, Debug, PartialEq, Eq)]
+#[derive(Clone, Copy, PartialEq, Eq)]
 pub enum Bias {
     /// `First`, `Many`, `Optional`: it is.
     Biased,

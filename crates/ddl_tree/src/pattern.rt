@@ -2,7 +2,7 @@ use crate::{Name, Number};
 use ddl_base::Span;
 
 /// What an alternative of a `case` fits.
-#[derive(Debug, Drop)]
+#[derive(Drop)]
 pub enum Pat {
     /// `_`
     Any(Span),
@@ -28,7 +28,7 @@ pub enum Pat {
 }
 
 /// What the content of a pattern is called.
-#[derive(Debug, Drop)]
+#[derive(Drop)]
 pub enum Binder {
     Called(Name),
     /// `_`
@@ -36,7 +36,7 @@ pub enum Binder {
 }
 
 /// The form that `is` wants of a value.
-#[derive(Debug, Drop)]
+#[derive(Drop)]
 pub enum Shape {
     IsTag(Name),
     IsTrue(Span),
@@ -46,7 +46,7 @@ pub enum Shape {
 }
 
 /// The names for the elements of a list, after an optional one for their places or keys.
-#[derive(Debug, Drop)]
+#[derive(Drop)]
 pub struct Names {
     pub first: Name,
     pub second: Option<Name>,
