@@ -2,19 +2,11 @@
 use Rattle.std.proofs.Common.{◌≡◌, ℕ, All, ◌<◌, List, [], ◌∷◌, map, get_or, length, refl, ap, sym, subst, zero, suc, arith}
 use Rattle.ddl_types.specs.declared.ty.Ty.{Ty}
 use Rattle.ddl_types.specs.Types as t
-use Rattle.ddl_types.specs.Types.{Sub, on, on_all, tys_of, BelowAll, Below, arguments}
+use Rattle.ddl_types.specs.Types.{Below, BelowAll, Each, EachOf, arguments}
 use Rattle.ddl_types.specs.TyView.{ty_view}
 use Rattle.ddl_types.specs.declared.cond.Cond.{Cond}
 use Rattle.ddl_types.specs.Conditions.{ConditionBelow}
 use Rattle.ddl_types.specs.CondView.{cond_view}
-
--- substitution goes into each type of a list
-pub on_list : (ts : List t.Ty) (f : Sub) → on_all (tys_of ts) f ≡ tys_of (map (λ x. on x f) ts)
-on_list [] f = refl
-on_list (x ∷ xs) f = ap (t.more (on x f)) (on_list xs f)
-
-pub on_place : (h : t.Head) (ts : List t.Ty) (f : Sub) → on (t.con h (tys_of ts)) f ≡ t.con h (tys_of (map (λ x. on x f) ts))
-on_place h ts f = ap (t.con h) (on_list ts f)
 
 -- what is seen at a place of a list is what stands there, seen
 get_at : {X Y : Type 0} (g : X → Y) (xs : List X) (i : ℕ) (x : X) (d : Y) → i < length xs → x ≡ get_or xs i x → get_or (map g xs) i d ≡ g x
@@ -26,11 +18,15 @@ get_at g (y ∷ xs) (suc i) x d h e = get_at g xs i x d (omega arith) e
 pub argument_at : (ts : List Ty) (i : ℕ) (x : Ty) → i < length ts → x ≡ get_or ts i x → arguments (map ty_view ts) i ≡ ty_view x
 argument_at ts i x h e = get_at ty_view ts i x (t.var i) h e
 
--- the variables of a list's type are below what those of the list are
-pub below_at : (ts : List Ty) (i : ℕ) (x : Ty) (n : ℕ) → i < length ts → x ≡ get_or ts i x → BelowAll (tys_of (map ty_view ts)) n → Below (ty_view x) n
-below_at [] i x n h e b = absurd (omega arith)
-below_at (y ∷ ts) zero x n h e b = let P : t.Ty → Type 0 = λ z. Below z n in subst P (ap ty_view (sym e)) b.0
-below_at (y ∷ ts) (suc i) x n h e b = below_at ts i x n (omega arith) e b.1
+-- a type whose variables are below a number fits where that is asked
+mutual
+  pub each_below : (t : t.Ty) (n : ℕ) → Below t n → Each (λ v. v < n) t
+  each_below (t.var v) n b = b
+  each_below (t.con h ts) n b = each_of_below ts n b
+
+  each_of_below : (ts : t.Tys) (n : ℕ) → BelowAll ts n → EachOf (λ v. v < n) ts
+  each_of_below t.none n b = b
+  each_of_below (t.more x ts) n b = (each_below x n b.0, each_of_below ts n b.1)
 
 map_length : (cs : List Cond) → length (map cond_view cs) ≡ length cs
 map_length [] = refl
@@ -41,5 +37,3 @@ pub condition_at : (cs : List Cond) (i : ℕ) (x : Cond) (n : ℕ) → i < lengt
 condition_at cs i x n h e b =
     let here : get_or (map cond_view cs) i (cond_view x) ≡ cond_view x = get_at cond_view cs i x (cond_view x) h e in
     subst (ConditionBelow n) here (b i (cond_view x) (omega (arith, h, map_length cs)))
-
-pub ruleset arguments_on = (on_place, argument_at, below_at)

@@ -6,6 +6,7 @@ pub mod Joins
 pub mod KeptCut
 pub mod KeptSame
 pub mod KeptTwice
+pub mod Mapping
 pub mod NumRows
 pub mod PlainLayers
 pub mod PlainRows

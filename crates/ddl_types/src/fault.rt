@@ -1,5 +1,5 @@
 /// What ends a run at once, in every alternative.
-#[derive(Clone, Copy, Debug, PartialEq, Eq)]
+#[derive(Clone, Copy, PartialEq, Eq)]
 pub enum Fault {
     /// The true result leaves the range of `int` or `sint n`.
     Overflow,

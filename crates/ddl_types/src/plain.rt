@@ -2,7 +2,7 @@ use crate::Num;
 use ddl_base::Bytes;
 
 /// A value as it is printed: a tree with names, without types.
-#[derive(Debug, Drop)]
+#[derive(Drop)]
 pub enum Plain {
     Unit,
     Bool(bool),

@@ -1,8 +1,10 @@
 //! Types, as they are written and as they are inferred.
 
-ghost use Rattle.std.specs.Prelude.{◌≡◌, IfOk, map};
+ghost use Rattle.std.specs.Prelude.{◌≡◌, IfOk};
+ghost use Rattle.ddl_types.specs.Types.{Ty.var};
 ghost use Rattle.ddl_types.specs.TyView.{ty_view};
 
+use crate::leaves::{Leaves, mapped};
 use ddl_base::NoMemory;
 use std::alloc::Global;
 
@@ -35,54 +37,27 @@ pub enum Ty {
     Place(u32, Vec<Ty>),
 }
 
+/// Each variable stands for itself.
+#[derive(Clone, Copy)]
+struct Same;
+
+impl Leaves for Same {
+    ghost fits = { λ s v. Unit {0} };
+
+    ghost sub = { λ s. var };
+
+    #[tactic(auto, using(crate::proofs::TyLayers::layers))]
+    fn at(&self, _alloc: Global, variable: u32) -> Result<Ty, NoMemory> {
+        Ok(Ty::Var(variable))
+    }
+}
+
 impl Ty {
     /// A copy.
-    #[tactic(auto, using(crate::proofs::TyLayers::layers))]
+    #[tactic(auto, using(crate::proofs::Mapping::copied))]
     pub fn copy(&self, alloc: Global) -> Result<Self, NoMemory>
         ensures { IfOk result (λ t. ty_view t ≡ ty_view self.now) }
     {
-        copy(alloc, self)
+        mapped(alloc, &Same, self)
     }
-}
-
-#[cycle(copy)]
-#[tactic(auto, using(crate::proofs::TyLayers::layers))]
-fn copy(alloc: Global, t: &Ty) -> Result<Ty, NoMemory>
-    ensures { IfOk result (λ r. ty_view r ≡ ty_view t.now) }
-{
-    match t {
-        Ty::Var(v) => Ok(Ty::Var(*v)),
-        Ty::Int => Ok(Ty::Int),
-        Ty::Uint(width) => Ok(Ty::Uint(*width)),
-        Ty::Sint(width) => Ok(Ty::Sint(*width)),
-        Ty::Bool => Ok(Ty::Bool),
-        Ty::Unit => Ok(Ty::Unit),
-        Ty::Stream => Ok(Ty::Stream),
-        Ty::Maybe(inner) => Ok(Ty::Maybe(copy_box(alloc, inner)?)),
-        Ty::Array(element) => Ok(Ty::Array(copy_box(alloc, element)?)),
-        Ty::Map(key, value) => Ok(Ty::Map(copy_box(alloc, key)?, copy_box(alloc, value)?)),
-        Ty::Bits(number) => Ok(Ty::Bits(*number)),
-        Ty::Place(number, args) => Ok(Ty::Place(*number, copy_all(alloc, args)?)),
-    }
-}
-
-#[cycle(copy)]
-#[tactic(auto, using(crate::proofs::TyLayers::layers))]
-fn copy_box(alloc: Global, t: &Ty) -> Result<Box<Ty>, NoMemory>
-    ensures { IfOk result (λ r. ty_view r.value ≡ ty_view t.now) }
-{
-    let copied = copy(alloc, t)?;
-    Ok(Box::new(alloc, copied)?)
-}
-
-#[cycle(copy)]
-#[tactic(auto, using(crate::proofs::TyLayers::layers))]
-fn copy_all(alloc: Global, ts: &[Ty]) -> Result<Vec<Ty>, NoMemory>
-    ensures { IfOk result (λ v. map ty_view v.items ≡ map ty_view ts.now) }
-{
-    let mut copied = Vec::new(alloc);
-    for t in ts {
-        copied.push(copy(alloc, t)?)?;
-    }
-    Ok(copied)
 }
