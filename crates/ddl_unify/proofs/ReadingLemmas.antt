@@ -3,7 +3,7 @@ use Rattle.std.proofs.Common.{◌≡◌, ℕ, ◌+◌, ◌*◌, ◌<◌, ◌≤�
 use Rattle.ddl_types.specs.declared.ty.Ty as program
 use Rattle.ddl_types.specs.Types.{Head, Ty, Tys, Ty.var, Ty.con, Tys.none, Tys.more, Sub, on, on_all, tys_of}
 use Rattle.ddl_types.specs.TyView.{ty_view}
-use Rattle.ddl_types.proofs.Arguments.{on_place}
+use Rattle.ddl_types.proofs.Mapping.{on_place}
 use Rattle.ddl_unify.specs.declared.store.Bound.{Bound}
 use Rattle.ddl_unify.specs.View.{bounds}
 use Rattle.ddl_unify.specs.Kept.{Kept}

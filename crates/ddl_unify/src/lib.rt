@@ -6,8 +6,6 @@ mod heads;
 mod occurs;
 mod reading;
 mod refusal;
-#[cfg(test)]
-mod rows;
 mod solver;
 mod solving;
 mod store;
