@@ -1,0 +1,16 @@
+pub mod Arrays
+pub mod Bitdata
+pub mod Builtins
+pub mod ByteSets
+pub mod Casts
+pub mod Comparisons
+pub mod LayoutView
+pub mod Maps
+pub mod Numbers
+pub mod Operators
+pub mod Patterns
+pub mod Primitives
+pub mod Records
+pub mod Streams
+pub mod TargetView
+pub mod Valued
