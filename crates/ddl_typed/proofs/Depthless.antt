@@ -7,8 +7,8 @@ use Rattle.ddl_types.specs.Outcome.{Outcome, ends, tick, miss, parse, parsed}
 use Rattle.ddl_types.specs.Joining.{Both, Bind, leave}
 use Rattle.ddl_typed.specs.Tree.{Expr, Form, Items, Item, Spec, no_spec, expr, text, local, pure, uint8, match, end, block, no_items, item, plain, let_, field, result_}
 use Rattle.ddl_typed.specs.Env.{Env}
-use Rattle.ddl_typed.specs.Valued.{then_parse}
-use Rattle.ddl_typed.specs.Primitives.{match_value}
+use Rattle.ddl_ops.specs.Valued.{then_parse}
+use Rattle.ddl_ops.specs.Primitives.{match_value}
 use Rattle.ddl_typed.specs.Blocks.{Built, nothing_built, with_part, bound}
 use Rattle.ddl_typed.specs.Lower.{Lower, bottom}
 use Rattle.ddl_typed.specs.Meaning.{val, den, form_den, den_items, den_item}

@@ -10,15 +10,15 @@ use Rattle.ddl_types.specs.Value.{Value, Source, array}
 use Rattle.ddl_types.specs.Types.{Ty}
 use Rattle.ddl_types.specs.Outcome.{parsed, missed}
 use Rattle.ddl_typed.specs.Tree.{item, expr, text, local}
-use Rattle.ddl_typed.specs.Env.{Env, empty, with_value}
-use Rattle.ddl_typed.specs.Valued.{counts, gives, lookup}
+use Rattle.ddl_typed.specs.Env.{lookup, Env, empty, with_value}
+use Rattle.ddl_ops.specs.Valued.{counts, gives}
 use Rattle.ddl_typed.specs.Blocks.{Built, block_value, bound, with_part}
 use Rattle.ddl_typed.specs.Simple.{AreSimple, IsSimpleItem, names_after}
 use Rattle.ddl_typed.specs.declared.expr.TItem.{TItem}
 use Rattle.ddl_typed.specs.declared.shared.Shared.{Shared}
 use Rattle.ddl_typed.specs.View.{item_view, items_view}
 use Rattle.ddl_typed.specs.Evaluated.{stream_at, meant_item, meant_items, rc_view, scope_view, env_from, simple_value_of}
-use Rattle.ddl_typed.specs.Primitives.{byte_values}
+use Rattle.ddl_ops.specs.Primitives.{byte_values}
 use Rattle.ddl_typed.proofs.Meant.{items_none, items_gave, items_failed}
 
 -- ---- items

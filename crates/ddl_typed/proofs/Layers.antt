@@ -119,6 +119,7 @@ class_view_roll (TClass-F.Either a b) = search (rules, c.the_lemmas)
 class_view_roll (TClass-F.Except a) = search (rules, c.the_lemmas)
 class_view_roll (TClass-F.Declared f) = search (rules, c.the_lemmas)
 class_view_roll (TClass-F.Parameter x) = search (rules, c.the_lemmas)
+class_view_roll (TClass-F.Set k) = search (rules, c.the_lemmas)
 
 pub class_view_out : (k : TClass) → class_view k ≡ class_layer (out-TClass k)
 class_view_out k = ap class_view (sym (roll-out-TClass k)) ∙ class_view_roll (out-TClass k)

@@ -9,7 +9,6 @@ pub mod Depths
 pub mod Items
 pub mod Law
 pub mod Layers
-pub mod LayoutLayers
 pub mod LoopRows
 pub mod Matching
 pub mod Meant
@@ -17,12 +16,10 @@ pub mod NamelessFits
 pub mod NamelessView
 pub mod Paired
 pub mod Pushing
-pub mod Rising
 pub mod RowForms
 pub mod Rows
 pub mod SharedLayers
 pub mod SpecificationRows
 pub mod StreamRows
 pub mod Telling
-pub mod TellingJoins
 pub mod TellingParts

@@ -5,7 +5,7 @@ use Rattle.ddl_base.specs.declared.span.Span.{Span}
 use Rattle.ddl_base.specs.declared.why.Why.TheVariants as why
 use Rattle.ddl_types.specs.Value.{in_input, array}
 use Rattle.ddl_types.specs.Outcome.{parsed, missed}
-use Rattle.ddl_typed.specs.Primitives.{byte_values}
+use Rattle.ddl_ops.specs.Primitives.{byte_values}
 use Rattle.ddl_typed.specs.Evaluated.{stream_at, matched}
 
 at_byte : (input bs whole : List ℕ) (i : ℕ) (span : Span) (at : ℕ) → i < length bs → matched input (drop i bs) whole span at ≡ matched input (get_or bs i 0 ∷ drop (i + 1) bs) whole span at

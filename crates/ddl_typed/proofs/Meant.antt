@@ -10,8 +10,8 @@ use Rattle.ddl_types.specs.Joining.{Bind}
 use Rattle.ddl_types.proofs.Joins.{unticked_leave, unticked_bind, both_end}
 use Rattle.ddl_typed.specs.Tree.{no_spec, Expr, Items, Item, expr, pure, uint8, match, end, block, no_items, item, plain, let_, field, result_}
 use Rattle.ddl_typed.specs.Env.{Env}
-use Rattle.ddl_typed.specs.Valued.{gives, counts, then_parse}
-use Rattle.ddl_typed.specs.Primitives.{byte_value, byte_values, match_bytes, with_bytes}
+use Rattle.ddl_ops.specs.Valued.{gives, counts, then_parse}
+use Rattle.ddl_ops.specs.Primitives.{byte_value, byte_values, match_bytes, with_bytes}
 use Rattle.ddl_typed.specs.Blocks.{Built, nothing_built, block_value, bound, with_part}
 use Rattle.ddl_typed.specs.Lower.{bottom}
 use Rattle.ddl_typed.specs.Meaning.{den_items, den_item}

@@ -1,8 +1,8 @@
 -- Layouts with and without names have the same widths, numbers and constructors.
-use Rattle.std.proofs.Common.{◌≡◌, ℕ, zero, suc, ◌+◌, ◌/◌, ◌%◌, ◌^◌, Bool, true, false, ◌&&◌, ◌||◌, if◌then◌else◌, Option, Some, None, option_map, refl, ap, ap₂, sym, ◌∙◌, arith}
+use Rattle.std.proofs.Common.{◌≡◌, ℕ, suc, ◌+◌, ◌/◌, ◌%◌, ◌^◌, Bool, true, false, ◌&&◌, ◌||◌, if◌then◌else◌, Option, Some, None, option_map, refl, ap, ap₂, sym, ◌∙◌, arith}
 use Rattle.ddl_types.specs.Layout as named
 use Rattle.ddl_bits.specs.Tree as bare
-use Rattle.ddl_typed.specs.Nameless.{nameless, con_nameless, parts_nameless, part_nameless, con_at, con_at_place}
+use Rattle.ddl_typed.specs.Nameless.{nameless, con_nameless, parts_nameless, part_nameless, con_at_place}
 
 mutual
   pub width_same : (l : named.Layout) → named.width l ≡ bare.cons_width (nameless l)

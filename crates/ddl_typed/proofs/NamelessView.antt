@@ -8,9 +8,9 @@ use Rattle.ddl_bits.specs.Accepted.{IsAccepted}
 use Rattle.ddl_bits.specs.Tree as tree
 use Rattle.ddl_bits.specs.View as bare
 use Rattle.ddl_bits.proofs.Layers as bare_layers
-use Rattle.ddl_typed.specs.LayoutView as named
+use Rattle.ddl_ops.specs.LayoutView as named
 use Rattle.ddl_typed.specs.Nameless.{nameless, con_nameless, parts_nameless, part_nameless}
-use Rattle.ddl_typed.proofs.LayoutLayers as named_layers
+use Rattle.ddl_ops.proofs.LayoutLayers as named_layers
 
 abbrev SameLayout : Layout → Type 0
 SameLayout l = nameless (named.layout_view l) ≡ bare.layout_view l

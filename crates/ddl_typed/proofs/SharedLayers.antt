@@ -7,7 +7,7 @@ use Rattle.ddl_types.specs.PlainOf.{names_of, plain_fields, plain_values, plain_
 use Rattle.ddl_types.specs.PlainView.{printables_of}
 use Rattle.ddl_typed.specs.declared.shared.Shared.{Shared, Shared-F, out-Shared, roll-Shared, roll-out-Shared, the_lemmas}
 use Rattle.ddl_typed.specs.declared.shared.Part.{Part, out-Part}
-use Rattle.ddl_typed.specs.Primitives.{byte_value, byte_values}
+use Rattle.ddl_ops.specs.Primitives.{byte_value, byte_values}
 use Rattle.ddl_typed.specs.SharedView.{shared_view, part_view, parts_view, shared_layer, part_layer, part_name, part_plain, part_deep, parts_deep}
 
 shared_view_roll : (l : Shared-F Shared Part) → shared_view (roll-Shared l) ≡ shared_layer l

@@ -1,7 +1,8 @@
 -- Environments.
 use Rattle.std.specs.Prelude.{ℕ, ◌==◌, Bool, false, if◌then◌else◌, Option, Some, None}
-use Rattle.ddl_types.specs.Types.{Ty, var, on}
+use Rattle.ddl_types.specs.Types.{Ty, con, none, unit, on}
 use Rattle.ddl_types.specs.Value.{Value}
+use Rattle.ddl_ops.specs.Valued.{Valued, given}
 use Rattle.ddl_typed.specs.Tree.{Expr, Name, own, under}
 
 -- what names and parameters stand for, the innermost binding first: a value, a value that an argument captured, a
@@ -34,6 +35,15 @@ value_in (with_captured h m v env) x = value_in env x
 value_in (with_grammar y p other env) x = value_in env x
 value_in (with_class y set env) x = value_in env x
 value_in (with_type y t env) x = value_in env x
+
+-- the value of a name, which a valid form has
+abbrev pub lookup : Env → ℕ → Valued
+lookup env x = given (value_in env x)
+
+-- a value under a name, where there is one
+abbrev pub with_optional : Option ℕ → Value → Env → Env
+with_optional None v env = env
+with_optional (Some x) v env = with_value x v env
 
 -- the value that the argument for a parameter captured under a name
 abbrev pub captured_in : Env → ℕ → Name → Option Value
@@ -72,9 +82,9 @@ class_in (with_grammar y p other env) x = class_in env x
 class_in (with_class y set env) x = if y == x then Some set else class_in env x
 class_in (with_type y t env) x = class_in env x
 
--- the type of a type variable
+-- the type of a type variable; it is that of `{}` for one that nobody gives a type
 abbrev pub type_in : Env → ℕ → Ty
-type_in empty x = var x
+type_in empty x = con unit none
 type_in (with_value y v env) x = type_in env x
 type_in (with_captured h m v env) x = type_in env x
 type_in (with_grammar y p other env) x = type_in env x

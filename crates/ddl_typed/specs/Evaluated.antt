@@ -8,9 +8,9 @@ use Rattle.ddl_types.specs.Types.{Ty}
 use Rattle.ddl_types.specs.Outcome.{Outcome, parsed, missed, unticked}
 use Rattle.ddl_typed.specs.Tree.{no_spec, Expr, Items, Item, expr, text}
 use Rattle.ddl_typed.specs.Env.{Env, empty, with_value}
-use Rattle.ddl_typed.specs.Valued.{Valued}
+use Rattle.ddl_ops.specs.Valued.{Valued}
 use Rattle.ddl_typed.specs.Blocks as b
-use Rattle.ddl_typed.specs.Primitives.{byte_values, one_byte, at_end, match_bytes}
+use Rattle.ddl_ops.specs.Primitives.{byte_values, one_byte, at_end, match_bytes}
 use Rattle.ddl_typed.specs.Lower.{bottom}
 use Rattle.ddl_typed.specs.Meaning.{val, den, den_items, den_item}
 use Rattle.ddl_typed.specs.SharedView.{shared_view, parts_view}

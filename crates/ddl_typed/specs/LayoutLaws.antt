@@ -6,7 +6,7 @@ use Rattle.ddl_bits.specs.Accepted.{IsAccepted}
 use Rattle.ddl_bits.specs.Tree.{cons_width, cons_fit, place_of}
 use Rattle.ddl_bits.specs.View as bare
 use Rattle.ddl_types.specs.Layout.{Layout, width, fits, con_of}
-use Rattle.ddl_typed.specs.LayoutView.{layout_view}
+use Rattle.ddl_ops.specs.LayoutView.{layout_view}
 use Rattle.ddl_typed.specs.Nameless.{nameless, con_at_place}
 
 -- as many bits

@@ -3,7 +3,7 @@ use Rattle.std.specs.Prelude.{ℕ, List, [], ◌∷◌, map, if◌then◌else◌
 use Rattle.ddl_types.specs.Plain.{Printable, deep, fields_deep, is_hidden}
 use Rattle.ddl_types.specs.PlainOf.{plain_of, plain_fields, names_of}
 use Rattle.ddl_types.specs.Value.{Value, Fields, unit, array, fields, no_fields, field}
-use Rattle.ddl_typed.specs.Primitives.{byte_value, byte_values}
+use Rattle.ddl_ops.specs.Primitives.{byte_value, byte_values}
 use Rattle.ddl_typed.specs.declared.shared.Shared.{Shared, Shared-F, fold-Shared}
 use Rattle.ddl_typed.specs.declared.shared.Part.{Part, Part-F, fold-Part}
 

@@ -11,7 +11,7 @@ use Rattle.ddl_typed.specs.declared.specification.TBody.{TBody}
 use Rattle.ddl_typed.specs.declared.specification.TBody.TheVariants as B
 use Rattle.ddl_typed.specs.declared.specification.PlaceType.{PlaceType}
 use Rattle.ddl_typed.specs.declared.specification.BitsDecl.{BitsDecl}
-use Rattle.ddl_typed.specs.LayoutView.{layout_view}
+use Rattle.ddl_ops.specs.LayoutView.{layout_view}
 use Rattle.ddl_typed.specs.PartView.{class_view}
 use Rattle.ddl_typed.specs.Tree.{Decl, of_form}
 use Rattle.ddl_typed.specs.View.{view}
@@ -50,6 +50,7 @@ abbrev pub specification_view : TSpec → s.Specification
 specification_view t = record {
   language = t.language;
   units = t.units.items;
+  texts = t.texts.items;
   declarations = map declaration_view t.decls.items;
   places = map place_view t.places.items;
   bitdata = map bits_view t.bits.items;

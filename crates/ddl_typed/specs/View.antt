@@ -10,9 +10,10 @@ use Rattle.ddl_typed.specs.declared.expr.TCase.{TCase, TCase-F, fold-TCase}
 use Rattle.ddl_typed.specs.declared.expr.TExpr.{TExpr, TExpr-F, fold-TExpr}
 use Rattle.ddl_typed.specs.declared.expr.TField.{TField, TField-F, fold-TField}
 use Rattle.ddl_typed.specs.declared.expr.TDecl.{TDecl}
+use Rattle.ddl_ops.specs.declared.pattern.Pattern.{Pattern}
 use Rattle.ddl_types.specs.Types.{Ty}
 use Rattle.ddl_types.specs.TyView.{ty_view}
-use Rattle.ddl_typed.specs.PartView.{infix_view, prefix_view, cast_view, builtin_view, primitive_view, choice_view, binder_view, pattern_view, name_view, site_view, class_view}
+use Rattle.ddl_typed.specs.PartView.{name_view, site_view, class_view}
 use Rattle.ddl_typed.specs.Tree as t
 
 -- ---- the elements of lists, and the lists that they make
@@ -21,7 +22,7 @@ abbrev pub OneAlternative : Type 0
 OneAlternative = Option (List ℕ) × t.Expr
 
 abbrev pub OneCase : Type 0
-OneCase = t.Pattern × t.Expr
+OneCase = Pattern × t.Expr
 
 abbrev pub OneField : Type 0
 OneField = List ℕ × t.Expr
@@ -81,30 +82,30 @@ form_step (TForm-F.List es) = t.list (exprs_of es.items)
 form_step (TForm-F.Record fs) = t.record_ (fields_of fs.items)
 form_step (TForm-F.Union name c) = t.union_ name c
 form_step (TForm-F.Select e name) = t.select e.value name
-form_step (TForm-F.Infix op a b) = t.infix_ (infix_view op) a.value b.value
-form_step (TForm-F.Prefix op e) = t.prefix_ (prefix_view op) e.value
-form_step (TForm-F.Cast c e) = t.cast (cast_view c) e.value
-form_step (TForm-F.Builtin b es) = t.builtin (builtin_view b) (exprs_of es.items)
+form_step (TForm-F.Infix op a b) = t.infix_ op a.value b.value
+form_step (TForm-F.Prefix op e) = t.prefix_ op e.value
+form_step (TForm-F.Cast c e) = t.cast c e.value
+form_step (TForm-F.Builtin b es) = t.builtin b (exprs_of es.items)
 form_step (TForm-F.ValueCall f args) = t.value_call f (args_of args.items)
 form_step (TForm-F.Paren e) = t.paren e.value
 form_step (TForm-F.If c a b) = t.if_ c.value a.value b.value
 form_step (TForm-F.Case e cs) = t.case_ e.value (cases_of cs.items)
-form_step (TForm-F.For x a names e b) = t.for_ x a.value (binder_view names) e.value b.value
-form_step (TForm-F.Map names e b) = t.map_ (binder_view names) e.value b.value
+form_step (TForm-F.For x a names e b) = t.for_ x a.value names e.value b.value
+form_step (TForm-F.Map names e b) = t.map_ names e.value b.value
 form_step (TForm-F.Pure e) = t.pure e.value
 form_step TForm-F.UInt8 = t.uint8
 form_step (TForm-F.Match e) = t.match e.value
 form_step TForm-F.End = t.end
 form_step (TForm-F.Class c) = t.class (class_view c)
 form_step (TForm-F.Fail n) = t.fail n
-form_step (TForm-F.Primitive p es) = t.primitive (primitive_view p) (exprs_of es.items)
-form_step (TForm-F.Is e p) = t.is_ e.value (pattern_view p)
+form_step (TForm-F.Primitive p es) = t.primitive p (exprs_of es.items)
+form_step (TForm-F.Is e p) = t.is_ e.value p
 form_step (TForm-F.Fits e) = t.fits e.value
 form_step (TForm-F.Block is) = t.block (items_of is.items)
 form_step (TForm-F.First as_) = t.first (alts_of as_.items)
 form_step (TForm-F.Choose as_) = t.choose (alts_of as_.items)
-form_step (TForm-F.Many c b e) = t.many (choice_view c) b e.value
-form_step (TForm-F.Optional c e) = t.optional (choice_view c) e.value
+form_step (TForm-F.Many c b e) = t.many c b e.value
+form_step (TForm-F.Optional c e) = t.optional c e.value
 form_step (TForm-F.Call f args) = t.call f (args_of args.items)
 form_step (TForm-F.Parameter x) = t.parameter x
 
@@ -136,7 +137,7 @@ abbrev pub alternative_step : TAlternative-F OneArgument t.Bounds t.Content t.Fo
 alternative_step a = (a.tag, a.body)
 
 abbrev pub case_step : TCase-F OneArgument t.Bounds t.Content t.Form t.Item OneAlternative OneCase t.Expr OneField → OneCase
-case_step c = (pattern_view c.pattern, c.body)
+case_step c = (c.pattern, c.body)
 
 abbrev pub expr_step : TExpr-F OneArgument t.Bounds t.Content t.Form t.Item OneAlternative OneCase t.Expr OneField → t.Expr
 expr_step e = t.expr e.form (ty_view e.of) e.span
@@ -204,30 +205,30 @@ form_layer (TForm-F.List es) = t.list (exprs_view es.items)
 form_layer (TForm-F.Record fs) = t.record_ (fields_view fs.items)
 form_layer (TForm-F.Union name c) = t.union_ name (content_view c)
 form_layer (TForm-F.Select e name) = t.select (view e.value) name
-form_layer (TForm-F.Infix op a b) = t.infix_ (infix_view op) (view a.value) (view b.value)
-form_layer (TForm-F.Prefix op e) = t.prefix_ (prefix_view op) (view e.value)
-form_layer (TForm-F.Cast c e) = t.cast (cast_view c) (view e.value)
-form_layer (TForm-F.Builtin b es) = t.builtin (builtin_view b) (exprs_view es.items)
+form_layer (TForm-F.Infix op a b) = t.infix_ op (view a.value) (view b.value)
+form_layer (TForm-F.Prefix op e) = t.prefix_ op (view e.value)
+form_layer (TForm-F.Cast c e) = t.cast c (view e.value)
+form_layer (TForm-F.Builtin b es) = t.builtin b (exprs_view es.items)
 form_layer (TForm-F.ValueCall f args) = t.value_call f (args_view args.items)
 form_layer (TForm-F.Paren e) = t.paren (view e.value)
 form_layer (TForm-F.If c a b) = t.if_ (view c.value) (view a.value) (view b.value)
 form_layer (TForm-F.Case e cs) = t.case_ (view e.value) (cases_view cs.items)
-form_layer (TForm-F.For x a names e b) = t.for_ x (view a.value) (binder_view names) (view e.value) (view b.value)
-form_layer (TForm-F.Map names e b) = t.map_ (binder_view names) (view e.value) (view b.value)
+form_layer (TForm-F.For x a names e b) = t.for_ x (view a.value) names (view e.value) (view b.value)
+form_layer (TForm-F.Map names e b) = t.map_ names (view e.value) (view b.value)
 form_layer (TForm-F.Pure e) = t.pure (view e.value)
 form_layer TForm-F.UInt8 = t.uint8
 form_layer (TForm-F.Match e) = t.match (view e.value)
 form_layer TForm-F.End = t.end
 form_layer (TForm-F.Class c) = t.class (class_view c)
 form_layer (TForm-F.Fail n) = t.fail n
-form_layer (TForm-F.Primitive p es) = t.primitive (primitive_view p) (exprs_view es.items)
-form_layer (TForm-F.Is e p) = t.is_ (view e.value) (pattern_view p)
+form_layer (TForm-F.Primitive p es) = t.primitive p (exprs_view es.items)
+form_layer (TForm-F.Is e p) = t.is_ (view e.value) p
 form_layer (TForm-F.Fits e) = t.fits (view e.value)
 form_layer (TForm-F.Block is) = t.block (items_view is.items)
 form_layer (TForm-F.First as_) = t.first (alts_view as_.items)
 form_layer (TForm-F.Choose as_) = t.choose (alts_view as_.items)
-form_layer (TForm-F.Many c b e) = t.many (choice_view c) (bounds_view b) (view e.value)
-form_layer (TForm-F.Optional c e) = t.optional (choice_view c) (view e.value)
+form_layer (TForm-F.Many c b e) = t.many c (bounds_view b) (view e.value)
+form_layer (TForm-F.Optional c e) = t.optional c (view e.value)
 form_layer (TForm-F.Call f args) = t.call f (args_view args.items)
 form_layer (TForm-F.Parameter x) = t.parameter x
 
@@ -259,7 +260,7 @@ abbrev pub alternative_layer : TAlternative-F TArgument TBounds TContent TForm T
 alternative_layer a = (a.tag, view a.body)
 
 abbrev pub case_layer : TCase-F TArgument TBounds TContent TForm TItem TAlternative TCase TExpr TField → OneCase
-case_layer c = (pattern_view c.pattern, view c.body)
+case_layer c = (c.pattern, view c.body)
 
 abbrev pub expr_layer : TExpr-F TArgument TBounds TContent TForm TItem TAlternative TCase TExpr TField → t.Expr
 expr_layer e = t.expr (form_view e.form) (ty_view e.of) e.span

@@ -2,14 +2,14 @@ use ddl_base::{Span, Why};
 use ddl_types::{Fault, Plain};
 
 /// What is told of an entry on an input: its parses in order, and how it closes.
-#[derive(Debug, Drop)]
+#[derive(Drop)]
 pub struct Answer {
     pub parses: Vec<Parse>,
     pub closing: Close,
 }
 
 /// One parse.
-#[derive(Debug, Drop)]
+#[derive(Drop)]
 pub struct Parse {
     pub value: Plain,
     /// The place after the parse, in the bytes of its own stream.
@@ -19,7 +19,7 @@ pub struct Parse {
 }
 
 /// How an answer closes.
-#[derive(Clone, Copy, Debug, PartialEq, Eq)]
+#[derive(Clone, Copy, PartialEq, Eq)]
 pub enum Close {
     /// After at least one parse.
     Parses,
@@ -30,7 +30,7 @@ pub enum Close {
 }
 
 /// Why and where there was no parse, and the form that said so.
-#[derive(Clone, Copy, Debug, PartialEq, Eq)]
+#[derive(Clone, Copy, PartialEq, Eq)]
 pub struct Failure {
     pub why: Why,
     /// Whether `at` is a place in the input.

@@ -1,4 +1,6 @@
-/// A class as it is written: a set of bytes.
+use ddl_class::Class;
+
+/// A class as it is written, or the bytes that it has.
 #[derive(Drop)]
 pub enum TClass {
     /// The bytes from the first to the second one.
@@ -11,4 +13,6 @@ pub enum TClass {
     Declared(u32),
     /// A class parameter.
     Parameter(u32),
+    /// These bytes.
+    Set(Class),
 }

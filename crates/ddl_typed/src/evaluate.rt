@@ -2,7 +2,7 @@ ghost use Rattle.std.specs.Prelude.{◌≡◌, IfOk, OnOk, length, take, true};
 ghost use Rattle.ddl_typed.specs.Blocks.{bound, nothing_built};
 ghost use Rattle.ddl_typed.specs.Evaluated.{Gives, IsTextOf, byte_at, end_at, matched, meant, meant_item, meant_items, rc_view, scope_view, simple_value_of};
 ghost use Rattle.ddl_typed.specs.Simple.{AreSimple, IsSimple, IsSimpleItem, IsSimpleValue, IsText, names_after};
-ghost use Rattle.ddl_typed.specs.Valued.{counts, gives};
+ghost use Rattle.ddl_ops.specs.Valued.{counts, gives};
 ghost use Rattle.ddl_typed.specs.View.{item_view, items_view, view};
 
 use crate::answer::Failure;

@@ -1,8 +1,7 @@
 use crate::class::TClass;
-use crate::operators::{
-    Binder, Builtin, Cast, Choice, Infix, Name, Pattern, Prefix, Primitive, Site,
-};
+use crate::parts::{Binder, Choice, Name, Site};
 use ddl_base::{Bytes, Span};
+use ddl_ops::{Builtin, Cast, Infix, Pattern, Prefix, Primitive};
 use ddl_types::Ty;
 
 /// A declaration: its name's place, and the form that it stands for.

@@ -9,12 +9,10 @@ mod evaluate;
 mod expr;
 mod laws;
 mod layouts;
-mod operators;
+mod parts;
 mod shared;
 mod specification;
 mod step;
-#[cfg(test)]
-mod tests;
 
 pub use answer::{Answer, Close, Failure, Parse};
 pub use class::TClass;
@@ -24,7 +22,5 @@ pub use expr::{
 };
 pub use laws::{answer_law, depth_law};
 pub use layouts::layout_law;
-pub use operators::{
-    Binder, Builtin, Cast, Choice, Comparison, Infix, Name, Pattern, Prefix, Primitive, Site,
-};
+pub use parts::{Binder, Choice, Name, Site};
 pub use specification::{BitsDecl, PlaceType, TBody, TDeclaration, TParam, TSpec, form_declared};

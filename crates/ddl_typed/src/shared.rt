@@ -3,7 +3,7 @@ ghost use Rattle.ddl_types.specs.Plain.{deep, deepest};
 ghost use Rattle.ddl_types.specs.PlainOf.{plain_of, plain_values};
 ghost use Rattle.ddl_types.specs.PlainView.{plain_view};
 ghost use Rattle.ddl_typed.specs.SharedView.{shared_view, part_view, part_name, part_plain, part_deep, parts_deep};
-ghost use Rattle.ddl_typed.specs.Primitives.{byte_value, byte_values};
+ghost use Rattle.ddl_ops.specs.Primitives.{byte_value, byte_values};
 
 use ddl_base::{Bytes, NoMemory};
 use ddl_types::{Num, Plain};

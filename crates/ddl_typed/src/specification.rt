@@ -15,6 +15,8 @@ pub struct TSpec {
     pub language: u8,
     /// The names of its modules.
     pub units: Vec<Bytes>,
+    /// The texts of `Fail`, in the order of their numbers.
+    pub texts: Vec<Bytes>,
     pub decls: Vec<TDeclaration>,
     /// The records and unions, in the order of their numbers.
     pub places: Vec<PlaceType>,

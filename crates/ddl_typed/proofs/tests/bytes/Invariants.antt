@@ -1,6 +1,0 @@
-use Rattle.ddl_typed.specs.Simple.{AreSimple}
-use Rattle.ddl_typed.specs.View.{items_view}
-use Rattle.ddl_typed.proofs.tests.bytes.Given as goal
-
-abbrev pub invariant-loop-at : goal.invariant-loop-at
-invariant-loop-at l = AreSimple (items_view l.items.items) 0
