@@ -1,0 +1,4 @@
+pub mod Law
+pub mod Layers
+pub mod Rows
+pub mod Single
