@@ -8,15 +8,15 @@ use Rattle.ddl_types.specs.declared.ty.Ty.{Int}
 use Rattle.ddl_types.proofs.TyLayers.{layers}
 use Rattle.ddl_unify.specs.Equations.{Equation, equal, MostGeneral, Solves}
 use Rattle.ddl_unify.proofs.Steps.{solves_back}
-use Rattle.ddl_conditions.specs.declared.refusal.SettleError.{SettleError}
-use Rattle.ddl_conditions.specs.declared.refusal.SettleError.TheVariants as e
+use Rattle.ddl_growing.specs.declared.refusal.SettleError.{SettleError}
+use Rattle.ddl_growing.specs.declared.refusal.SettleError.TheVariants as e
 use Rattle.ddl_conditions.specs.Answer.{IsUnsettled}
 use Rattle.ddl_conditions.specs.Closing.{IsUnmet}
 use Rattle.ddl_types.specs.Conditions.{num, word, lit}
-use Rattle.ddl_conditions.specs.Demands.{Asked, Demand, condition, DemandBelow, numbered}
+use Rattle.ddl_judging.specs.Demands.{Asked, Demand, condition, DemandBelow, numbered}
 use Rattle.ddl_conditions.specs.Growing.{Added, Group, Grows, IsDone, IsFree, IsReady, State, FirstOf, adding_ones, added_at, becoming_int, begun, equations, further, start}
 use Rattle.ddl_conditions.specs.Settled.{IsEnd}
-use Rattle.ddl_conditions.specs.Turns.{AreShapes, IsRefusal, Solved}
+use Rattle.ddl_growing.specs.Turns.{AreShapes, IsRefusal, Solved}
 use Rattle.ddl_conditions.specs.Walking.{AreBelow, Fits, Going, HasGrown, IsCut, IsFreeAt, IsOver, IsStep, Place, Stops, Wait, WaitIf, left, unchecked}
 use Rattle.ddl_conditions.proofs.Carrying.{unfree_stays}
 use Rattle.ddl_conditions.proofs.Freeing.{free_at, free_of}

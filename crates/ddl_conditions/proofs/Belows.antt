@@ -5,9 +5,9 @@ use Rattle.std.proofs.lemmas.List.Elements.{All-weaker}
 use Rattle.ddl_types.specs.Types.{Ty, Below}
 use Rattle.ddl_types.specs.Conditions.{Condition, num, word, lit, key, lossless, cut, fit, cat, field, tag, loops, ConditionBelow}
 use Rattle.ddl_unify.proofs.Equating.{below_more}
-use Rattle.ddl_conditions.specs.Demands.{Asked, Demand, condition, make, gather, DemandBelow}
-use Rattle.ddl_conditions.specs.Shapes.{Shape, BitShape, Shapes}
-use Rattle.ddl_conditions.specs.Turns.{AreShapes, IsShape}
+use Rattle.ddl_judging.specs.Demands.{Asked, Demand, condition, make, gather, DemandBelow}
+use Rattle.ddl_judging.specs.Shapes.{Shape, BitShape, Shapes}
+use Rattle.ddl_growing.specs.Turns.{AreShapes, IsShape}
 use Rattle.ddl_conditions.specs.Walking.{AreBelow}
 
 condition_below_more : (c : Condition) (m n : ℕ) → m ≤ n → ConditionBelow m c → ConditionBelow n c

@@ -1,14 +1,14 @@
 -- What a solution shows, a longer list's shows too: each is the first followed by a further map.
-use Rattle.std.proofs.Common.{◌≡◌, ℕ, ◌||◌, List, [], ◌∷◌, ◌++◌, refl, sym, ap, ◌∙◌, arith, true, false, Bool, inl, inr, ◌⊎◌, subst, eqb-true, eq-eqb}
-use Rattle.std.specs.Prelude.{All, Contains}
+use Rattle.std.proofs.Common.{◌≡◌, ℕ, ◌||◌, List, ◌++◌, refl, sym, ap, ◌∙◌, true, false, Bool, inl, inr, ◌⊎◌, eqb-true, eq-eqb}
+use Rattle.std.specs.Prelude.{All}
 use Rattle.std.proofs.lemmas.List.Elements.{All-weaker}
-use Rattle.ddl_types.specs.Types.{Ty, Tys, Ty.var, Ty.con, Tys.none, Tys.more, Sub, on, on_all, Head, Head.place}
+use Rattle.ddl_types.specs.Types.{Ty, Tys, Ty.var, Ty.con, Tys.none, Tys.more, Sub, on, on_all}
 use Rattle.ddl_unify.specs.Occurs.{has, has_all}
 use Rattle.ddl_unify.specs.Equations.{Equation, Solves, MostGeneral}
 use Rattle.ddl_unify.proofs.Sub.{on_on, on_same}
 use Rattle.ddl_unify.proofs.Steps.{solves_front}
-use Rattle.ddl_conditions.specs.Demands.{Asked}
-use Rattle.ddl_conditions.specs.Shapes.{Shapes, place_at}
+use Rattle.ddl_judging.specs.Demands.{Asked}
+use Rattle.ddl_judging.specs.Shapes.{Shapes}
 use Rattle.ddl_conditions.specs.Standing.{is_place, has_place, has_place_all, Shows, root, inner, Stands}
 use Rattle.ddl_conditions.specs.Growing.{Group, IsFree}
 

@@ -2,15 +2,15 @@
 use Rattle.std.proofs.Common.{◌≡◌, ℕ, ◌+◌, ◌<◌, ◌≤◌, List, [], ◌∷◌, ◌++◌, refl, sym, ap, subst, ◌∙◌, arith, zero, suc, map, take, length, get_or, Option, Some, None, All, add-one}
 use Rattle.ddl_base.specs.declared.span.Span.{Span}
 use Rattle.ddl_types.specs.Types.{Sub}
-use Rattle.ddl_conditions.specs.declared.demand.Asked as program
-use Rattle.ddl_conditions.specs.declared.refusal.Wrong as refusal
-use Rattle.ddl_conditions.specs.declared.refusal.SettleError.TheVariants as e
+use Rattle.ddl_judging.specs.declared.demand.Asked as program
+use Rattle.ddl_judging.specs.declared.refusal.Wrong as refusal
+use Rattle.ddl_growing.specs.declared.refusal.SettleError.TheVariants as e
 use Rattle.ddl_conditions.specs.Closing.{IsUnmet}
-use Rattle.ddl_conditions.specs.Demands.{Asked, DemandBelow, on_demand}
+use Rattle.ddl_judging.specs.Demands.{Asked, DemandBelow, on_demand}
 use Rattle.ddl_conditions.specs.Fates.{AreSorted, IsClosing, first_left}
 use Rattle.ddl_conditions.specs.Growing.{FirstOf, Group}
 use Rattle.ddl_conditions.specs.Settled.{AreKept, none_left, met, kept, IsFalse, IsKept, IsLeft, IsMet, IsWrong}
-use Rattle.ddl_conditions.specs.Views.{asked_view, demand_view, wrong_view}
+use Rattle.ddl_judging.specs.Views.{asked_view, demand_view, wrong_view}
 use Rattle.ddl_conditions.proofs.Verdicts.{not_met, not_false, not_neither}
 
 -- what holds of each element of a list, and of one more

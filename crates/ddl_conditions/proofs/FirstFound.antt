@@ -4,8 +4,8 @@ use Rattle.ddl_types.specs.declared.ty.Ty as program
 use Rattle.ddl_types.specs.Types.{Ty, Sub, on}
 use Rattle.ddl_types.specs.TyView.{ty_view}
 use Rattle.ddl_typed.specs.declared.specification.PlaceType.{PlaceType}
-use Rattle.ddl_conditions.specs.Shapes.{no_shape, place_at}
-use Rattle.ddl_conditions.specs.Views.{place_shape}
+use Rattle.ddl_judging.specs.Shapes.{no_shape, place_at}
+use Rattle.ddl_judging.specs.Views.{place_shape}
 use Rattle.ddl_unify.specs.Occurs.{has}
 use Rattle.ddl_conditions.specs.Seen.{AreRead, IsRead}
 use Rattle.ddl_conditions.proofs.Opening.{read_more}

@@ -5,7 +5,7 @@ use Rattle.ddl_unify.specs.Occurs.{is_var}
 use Rattle.ddl_unify.specs.State.{IsFree}
 use Rattle.ddl_unify.proofs.Opening.{var_is}
 use Rattle.ddl_conditions.specs.Closing.{Says}
-use Rattle.ddl_conditions.specs.Demands.{Asked, numbered}
+use Rattle.ddl_judging.specs.Demands.{Asked, numbered}
 use Rattle.ddl_conditions.specs.Growing as growing
 use Rattle.ddl_conditions.specs.Growing.{Group}
 use Rattle.ddl_conditions.specs.Standing.{Stands}

@@ -1,16 +1,15 @@
 -- How the turn of a demand makes the list grow.
-use Rattle.std.proofs.Common.{◌≡◌, ℕ, ◌+◌, ◌≤◌, List, [], ◌∷◌, ◌++◌, map, refl, sym, ap, ◌∙◌, arith, true, false, Bool, subst, append_assoc, Some}
-use Rattle.std.specs.Prelude.{All}
+use Rattle.std.proofs.Common.{◌≡◌, ℕ, ◌+◌, List, [], ◌∷◌, ◌++◌, map, refl, sym, ap, ◌∙◌, subst, append_assoc, Some}
 use Rattle.ddl_base.specs.declared.span.Span.{Span}
-use Rattle.ddl_types.specs.TyView.{ty_view}
 use Rattle.ddl_types.specs.Types.{Head}
 use Rattle.ddl_unify.specs.Equations.{Equation, MostGeneral}
-use Rattle.ddl_conditions.specs.declared.refusal.SettleError.{SettleError}
-use Rattle.ddl_conditions.specs.declared.refusal.SettleError.TheVariants as e
-use Rattle.ddl_conditions.specs.Demands.{Asked, subjects}
-use Rattle.ddl_conditions.specs.Giving.{gives}
-use Rattle.ddl_conditions.specs.Growing.{Added, Group, Grows, State, Step, adding, added_at, equations, further, heads_of}
-use Rattle.ddl_conditions.specs.Turns.{AtHeads, HasAdded, IsNoTurn, IsRefusal, IsStopped, Solved}
+use Rattle.ddl_growing.specs.declared.refusal.SettleError.{SettleError}
+use Rattle.ddl_growing.specs.declared.refusal.SettleError.TheVariants as e
+use Rattle.ddl_judging.specs.Demands.{Asked, subjects}
+use Rattle.ddl_growing.specs.Giving.{gives}
+use Rattle.ddl_conditions.specs.Growing.{Added, Group, Grows, State, adding, added_at, equations, further}
+use Rattle.ddl_growing.specs.Heads.{heads_of}
+use Rattle.ddl_growing.specs.Turns.{AtHeads, HasAdded, IsNoTurn, IsRefusal, IsStopped, Solved}
 use Rattle.ddl_conditions.specs.Walking.{IsCut, Wait}
 
 pub append_none : {A : Type 0} (xs : List A) → xs ++ [] ≡ xs

@@ -1,12 +1,13 @@
 -- The choices do not depend on the most general solution that is kept, so the list grows to one end.
-use Rattle.std.proofs.Common.{◌≡◌, ℕ, ◌+◌, List, [], ◌∷◌, ◌++◌, refl, sym, ap, ◌∙◌, arith, subst, Some, None, Option}
+use Rattle.std.proofs.Common.{◌≡◌, ℕ, ◌+◌, List, [], ◌∷◌, ◌++◌, refl, sym, ap, ◌∙◌, subst, Some, None, Option}
 use Rattle.std.specs.Prelude.{All}
 use Rattle.std.proofs.lemmas.List.Elements.{All-head, All-tail}
 use Rattle.ddl_types.specs.Types.{Ty, Ty.var, Ty.con, Tys.none, Sub, on, Head, Head.int}
-use Rattle.ddl_unify.specs.Equations.{Equation, equal, MostGeneral, Unsolvable}
-use Rattle.ddl_conditions.specs.Demands.{Asked, subjects, numbered}
-use Rattle.ddl_conditions.specs.Giving.{gives}
-use Rattle.ddl_conditions.specs.Growing.{Group, Grows, IsDone, IsFree, IsReady, FirstOf, State, Step, adding, becoming_int, begun, further, add_head, added_at, equations, head, heads_of, start}
+use Rattle.ddl_unify.specs.Equations.{Equation, equal, MostGeneral}
+use Rattle.ddl_judging.specs.Demands.{Asked, subjects, numbered}
+use Rattle.ddl_growing.specs.Giving.{gives}
+use Rattle.ddl_conditions.specs.Growing.{Group, Grows, IsDone, IsFree, IsReady, State, Step, adding, becoming_int, begun, further, added_at, equations, start}
+use Rattle.ddl_growing.specs.Heads.{add_head, head, heads_of}
 use Rattle.ddl_conditions.specs.Laws.{Ended, done_with, unsolvable, OneEnd}
 use Rattle.ddl_conditions.proofs.Carrying.{Follows, along, free_back}
 
@@ -15,7 +16,7 @@ head_stays : (x : Ty) (h : Sub) (c : Head) → head x ≡ Some c → head (on x 
 head_stays (var v) h c k = let q : None ≡ Some c = k in absurd (cc)
 head_stays (con d ts) h c k = k
 
-heads_stay : (ts : List Ty) (f g h : Sub) (hs : List Head) → Follows g f h → heads_of ts f ≡ Some hs → heads_of ts g ≡ Some hs
+pub heads_stay : (ts : List Ty) (f g h : Sub) (hs : List Head) → Follows g f h → heads_of ts f ≡ Some hs → heads_of ts g ≡ Some hs
 heads_stay [] f g h hs e k = k
 heads_stay (t ∷ ts) f g h hs e k = by_parts (heads_stay ts f g h) (head (on t f)) (heads_of ts f) refl refl k
   where

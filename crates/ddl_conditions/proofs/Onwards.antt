@@ -6,12 +6,13 @@ use Rattle.ddl_base.specs.declared.span.Span.{Span}
 use Rattle.ddl_types.specs.Types.{Ty, Ty.var, Ty.con, Tys.none, Sub, on, Head.int, Below}
 use Rattle.ddl_unify.specs.Equations.{Equation, equal, MostGeneral, Solves}
 use Rattle.ddl_unify.proofs.Steps.{solves_back}
-use Rattle.ddl_conditions.specs.declared.refusal.SettleError.{SettleError}
-use Rattle.ddl_conditions.specs.Demands.{Asked, Demand, DemandBelow, adds, numbered, subjects}
-use Rattle.ddl_conditions.specs.Giving.{Given, gives, nothing}
-use Rattle.ddl_conditions.specs.Growing.{Added, Group, Grows, IsDone, IsFree, IsReady, State, Step, FirstOf, adding_ones, added_at, becoming_int, begun, equations, further, heads_of, start}
-use Rattle.ddl_conditions.specs.Shapes.{Shapes}
-use Rattle.ddl_conditions.specs.Turns.{AreShapes, AtHeads, HasAdded, IsNoTurn, IsRefusal, Solved}
+use Rattle.ddl_growing.specs.declared.refusal.SettleError.{SettleError}
+use Rattle.ddl_judging.specs.Demands.{Asked, Demand, DemandBelow, adds, numbered, subjects}
+use Rattle.ddl_growing.specs.Giving.{Given, gives, nothing}
+use Rattle.ddl_conditions.specs.Growing.{Added, Group, Grows, IsDone, IsFree, IsReady, State, Step, FirstOf, adding_ones, added_at, becoming_int, begun, equations, further, start}
+use Rattle.ddl_growing.specs.Heads.{heads_of}
+use Rattle.ddl_judging.specs.Shapes.{Shapes}
+use Rattle.ddl_growing.specs.Turns.{AreShapes, AtHeads, HasAdded, IsNoTurn, IsRefusal, Solved}
 use Rattle.ddl_conditions.specs.Walking.{AreBelow, Fits, Going, HasGrown, HasNoTurn, HasTurn, IsCut, IsFreeAt, IsOver, IsStep, Onward, Place, Stops, Wait, WaitIf, left, unchecked}
 use Rattle.ddl_conditions.proofs.Belows.{are_below_more, are_shapes_more}
 use Rattle.ddl_conditions.proofs.Carrying.{unfree_stays}

@@ -3,7 +3,7 @@ use Rattle.std.proofs.Common.{◌≡◌, ℕ, ◌==◌, List, [], ◌∷◌, ◌
 use Rattle.std.proofs.lemmas.List.Elements.{Contains-append_left, Contains-push, Contains-push_cases}
 use Rattle.ddl_types.specs.Types.{Ty, Sub, on}
 use Rattle.ddl_unify.specs.Occurs.{has}
-use Rattle.ddl_conditions.specs.Shapes.{Shape, Shapes, no_shape, place_at}
+use Rattle.ddl_judging.specs.Shapes.{Shape, Shapes, no_shape, place_at}
 use Rattle.ddl_conditions.specs.Standing.{Shows, root, inner, Stands}
 use Rattle.ddl_conditions.specs.Seen.{AreRead, IsClear, IsOpening, IsRead, PlaceIn, PlaceInAny, is_seen, members}
 use Rattle.ddl_conditions.proofs.Noting.{noted_both, noted_none}

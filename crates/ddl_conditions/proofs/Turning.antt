@@ -4,10 +4,11 @@ use Rattle.std.specs.Prelude.{All}
 use Rattle.std.proofs.lemmas.List.{take_more, take_all}
 use Rattle.std.proofs.lemmas.List.Elements.{All-cons, All-head, All-tail, All-push}
 use Rattle.ddl_types.specs.Types.{Sub}
-use Rattle.ddl_conditions.specs.declared.refusal.SettleError.{SettleError}
-use Rattle.ddl_conditions.specs.Demands.{Asked, DemandBelow, subjects}
-use Rattle.ddl_conditions.specs.Growing.{Group, IsReady, heads_of}
-use Rattle.ddl_conditions.specs.Turns.{AtHeads, HasAdded, IsNoTurn, Solved}
+use Rattle.ddl_growing.specs.declared.refusal.SettleError.{SettleError}
+use Rattle.ddl_judging.specs.Demands.{Asked, DemandBelow, subjects}
+use Rattle.ddl_conditions.specs.Growing.{Group, IsReady}
+use Rattle.ddl_growing.specs.Heads.{heads_of}
+use Rattle.ddl_growing.specs.Turns.{AtHeads, HasAdded, IsNoTurn, Solved}
 use Rattle.ddl_conditions.specs.Walking.{AreBelow, HasNoTurn, HasTurn, Wait}
 use Rattle.ddl_conditions.proofs.Growth.{map_append}
 use Rattle.ddl_conditions.proofs.Onwards.{not_ready}

@@ -1,14 +1,15 @@
 -- The cause of each answer.
-use Rattle.std.specs.Prelude.{◌≡◌, ℕ, List}
+use Rattle.std.specs.Prelude.{ℕ, List}
 use Rattle.ddl_types.specs.Types.{Sub}
 use Rattle.ddl_types.specs.TyView.{ty_view}
 use Rattle.ddl_unify.specs.Equations.{Equation}
 use Rattle.ddl_unify.specs.Refused.{AreHeld}
-use Rattle.ddl_conditions.specs.declared.refusal.SettleError.{SettleError}
-use Rattle.ddl_conditions.specs.declared.refusal.SettleError.TheVariants as e
+use Rattle.ddl_growing.specs.declared.refusal.SettleError.{SettleError}
+use Rattle.ddl_growing.specs.declared.refusal.SettleError.TheVariants as e
 use Rattle.ddl_conditions.specs.Closing.{IsUnmet}
 use Rattle.ddl_conditions.specs.Growing.{Group, State}
-use Rattle.ddl_conditions.specs.Settled.{AreKept, Clashes, IsEnd, IsRefused}
+use Rattle.ddl_conditions.specs.Settled.{AreKept, IsEnd, IsRefused}
+use Rattle.ddl_growing.specs.Turns.{Clashes}
 
 -- a group whose first equations are es, with n variables, is settled: the list has grown to its end, with these equations and
 -- this solution, and each demand holds or is one of those that are kept

@@ -1,12 +1,12 @@
 -- What is said of a group whose list has grown to its end.
-use Rattle.std.specs.Prelude.{◌≡◌, ℕ, List, All, Bool, true, false}
+use Rattle.std.specs.Prelude.{◌≡◌, All, Bool, true, false}
 use Rattle.ddl_types.specs.Types.{Sub}
-use Rattle.ddl_conditions.specs.declared.refusal.SettleError.{SettleError}
-use Rattle.ddl_conditions.specs.declared.refusal.SettleError.TheVariants as e
-use Rattle.ddl_conditions.specs.Demands.{Asked}
+use Rattle.ddl_growing.specs.declared.refusal.SettleError.{SettleError}
+use Rattle.ddl_growing.specs.declared.refusal.SettleError.TheVariants as e
+use Rattle.ddl_judging.specs.Demands.{Asked}
 use Rattle.ddl_conditions.specs.Growing.{FirstOf, Group}
 use Rattle.ddl_conditions.specs.Settled.{IsFalse, IsLeft, IsWrong}
-use Rattle.ddl_conditions.specs.Views.{wrong_view}
+use Rattle.ddl_judging.specs.Views.{wrong_view}
 
 -- a test says whether something is so
 abbrev pub Says : Bool → Type 0 → Type 0

@@ -4,10 +4,10 @@ use Rattle.ddl_base.specs.declared.span.Span.{Span}
 use Rattle.ddl_types.specs.Types.{Sub}
 use Rattle.ddl_conditions.specs.declared.closing.Fate.{Fate}
 use Rattle.ddl_conditions.specs.declared.closing.Fate.TheVariants as fate
-use Rattle.ddl_conditions.specs.Demands.{Asked}
+use Rattle.ddl_judging.specs.Demands.{Asked}
 use Rattle.ddl_conditions.specs.Growing.{FirstOf, Group}
 use Rattle.ddl_conditions.specs.Settled.{AreKept, IsFalse, IsKept, IsLeft, IsMet, IsWrong}
-use Rattle.ddl_conditions.specs.Views.{wrong_view}
+use Rattle.ddl_judging.specs.Views.{wrong_view}
 
 -- a demand holds, is false, is kept, or is left
 abbrev pub IsFate : Group → Sub → Asked → Fate → Type 0

@@ -1,11 +1,12 @@
 -- The list of equations as it grows by demands.
-use Rattle.std.specs.Prelude.{◌≡◌, ℕ, ◌+◌, List, [], ◌∷◌, ◌++◌, map, All, if◌then◌else◌, Option, Some, None, Bool, true, false}
+use Rattle.std.specs.Prelude.{◌≡◌, ℕ, ◌+◌, List, [], ◌∷◌, ◌++◌, map, All, if◌then◌else◌, Some, Bool, true}
 use Rattle.ddl_base.specs.declared.span.Span.{Span}
 use Rattle.ddl_types.specs.Types.{Ty, Ty.var, Ty.con, Tys.none, Sub, on, Head, Head.int}
 use Rattle.ddl_unify.specs.Equations.{Equation, equal, MostGeneral}
-use Rattle.ddl_conditions.specs.Demands.{Demand, Asked, subjects, numbered, adds}
-use Rattle.ddl_conditions.specs.Giving.{Given, gives}
-use Rattle.ddl_conditions.specs.Shapes.{Shapes}
+use Rattle.ddl_judging.specs.Demands.{Asked, subjects, numbered, adds}
+use Rattle.ddl_growing.specs.Giving.{gives}
+use Rattle.ddl_growing.specs.Heads.{heads_of}
+use Rattle.ddl_judging.specs.Shapes.{Shapes}
 use Rattle.ddl_conditions.specs.Standing.{Stands}
 
 -- the group: its shapes, what is asked in text order, the types of its declarations, and whether each of these has parameters
@@ -14,20 +15,6 @@ pub record Group : Type 0 where
   pub asked : List Asked
   pub roots : List Ty
   pub with_parameters : Bool
-
--- the head of a type that is known
-abbrev pub head : Ty → Option Head
-head (var v) = None
-head (con h ts) = Some h
-
-abbrev pub add_head : Option Head → Option (List Head) → Option (List Head)
-add_head (Some h) (Some hs) = Some (h ∷ hs)
-add_head h hs = None
-
--- the heads of types under a solution, where all are known
-abbrev pub heads_of : List Ty → Sub → Option (List Head)
-heads_of [] f = Some []
-heads_of (t ∷ ts) f = add_head (head (on t f)) (heads_of ts f)
 
 -- an equation that was added, and for which demand
 pub record Added : Type 0 where

@@ -1,9 +1,9 @@
 -- The variables of a demand's types.
-use Rattle.std.specs.Prelude.{◌≡◌, ◌⊎◌, ℕ, Bool, true}
+use Rattle.std.specs.Prelude.{◌≡◌, ◌⊎◌, ℕ, true}
 use Rattle.ddl_types.specs.Types.{Ty}
-use Rattle.ddl_types.specs.Conditions.{Condition, num, word, lit, key, lossless, cut, fit, cat, field, tag, loops}
+use Rattle.ddl_types.specs.Conditions.{num, word, lit, key, lossless, cut, fit, cat, field, tag, loops}
 use Rattle.ddl_unify.specs.Occurs.{has}
-use Rattle.ddl_conditions.specs.Demands.{Demand, condition, make, gather}
+use Rattle.ddl_judging.specs.Demands.{Demand, condition, make, gather}
 
 abbrev pub InType : ℕ → Ty → Type 0
 InType v t = has t v ≡ true

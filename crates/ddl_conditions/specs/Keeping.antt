@@ -1,7 +1,7 @@
 -- What keeps a demand that is neither true nor false.
 use Rattle.std.specs.Prelude.{◌≡◌, ℕ, Bool, true}
 use Rattle.ddl_types.specs.Types.{Sub}
-use Rattle.ddl_conditions.specs.Demands.{Demand, may_be_kept, on_demand}
+use Rattle.ddl_judging.specs.Demands.{Demand, may_be_kept, on_demand}
 use Rattle.ddl_conditions.specs.Growing.{Group}
 use Rattle.ddl_conditions.specs.InDemand.{InDemand}
 use Rattle.ddl_conditions.specs.Standing.{Stands}

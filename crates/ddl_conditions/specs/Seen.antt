@@ -2,7 +2,7 @@
 use Rattle.std.specs.Prelude.{◌≡◌, ◌⊎◌, ◌==◌, ℕ, ◌+◌, List, [], Contains, length, get_or, sum_by, if◌then◌else◌, Bool, true, false}
 use Rattle.ddl_types.specs.Types.{Ty, Sub, on}
 use Rattle.ddl_unify.specs.Occurs.{has}
-use Rattle.ddl_conditions.specs.Shapes.{Shape, Shapes, place_at}
+use Rattle.ddl_judging.specs.Shapes.{Shape, Shapes, place_at}
 use Rattle.ddl_conditions.specs.Standing.{has_place, Shows}
 
 -- whether a place has a mark; beyond the list there is nothing to see

@@ -1,13 +1,11 @@
 -- Which demands are false, kept or left, and how the list of equations ends.
-use Rattle.std.specs.Prelude.{◌≡◌, ℕ, suc, List, [], ◌∷◌, ◌++◌, map, All, Bool, true, false}
-use Rattle.ddl_base.specs.declared.span.Span.{Span}
-use Rattle.ddl_types.specs.Types.{Ty, Sub, on}
-use Rattle.ddl_unify.specs.Equations.{Equation, equal, MostGeneral, Unsolvable, Endless}
-use Rattle.ddl_unify.specs.Refused.{AreRead}
-use Rattle.ddl_conditions.specs.Demands.{Asked, Demand, may_be_kept, on_demand}
-use Rattle.ddl_conditions.specs.Growing.{Added, FirstOf, Group, Grows, IsDone, State, equations}
+use Rattle.std.specs.Prelude.{◌≡◌, ℕ, suc, List, [], ◌∷◌, ◌++◌, map, true}
+use Rattle.ddl_types.specs.Types.{Sub}
+use Rattle.ddl_unify.specs.Equations.{Equation, MostGeneral}
+use Rattle.ddl_judging.specs.Demands.{Asked, may_be_kept, on_demand}
+use Rattle.ddl_conditions.specs.Growing.{Added, Group, Grows, IsDone, State, equations}
 use Rattle.ddl_conditions.specs.InDemand.{InDemand}
-use Rattle.ddl_conditions.specs.Judging.{Judged, Wrong, holds, undecided, false_for}
+use Rattle.ddl_judging.specs.Judging.{Judged, Wrong, holds, undecided, false_for}
 use Rattle.ddl_conditions.specs.Standing.{Stands}
 
 -- a demand is false for this reason
@@ -53,6 +51,3 @@ pub record IsRefused (g : Group) (es : List Equation) (n : ℕ) (accepted : List
   pub after : List Added
   pub split : state.added ≡ before ++ a ∷ after
   pub accepted_before : accepted ≡ es ++ map (λ b. b.equation) before
-
-abbrev pub Clashes : List Equation → Sub → Equation → Ty → Ty → Type 0
-Clashes es f q l r = AreRead l r f q.left q.right × Unsolvable (es ++ q ∷ []) × (Endless (on q.left f) (on q.right f) → ⊥)

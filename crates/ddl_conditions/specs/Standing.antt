@@ -2,7 +2,7 @@
 use Rattle.std.specs.Prelude.{◌≡◌, ◌==◌, ◌||◌, ℕ, List, Contains, Bool, true, false}
 use Rattle.ddl_types.specs.Types.{Ty, Ty.var, Ty.con, Tys, Tys.none, Tys.more, Sub, on, Head, Head.place}
 use Rattle.ddl_unify.specs.Occurs.{has}
-use Rattle.ddl_conditions.specs.Shapes.{Shapes, place_at}
+use Rattle.ddl_judging.specs.Shapes.{Shapes, place_at}
 
 -- whether a head is that of this place
 abbrev pub is_place : ℕ → Head → Bool

@@ -1,14 +1,14 @@
 -- How far the walk over the demands of a group has come, and what its steps promise.
-use Rattle.std.specs.Prelude.{◌≡◌, ◌<◌, ◌+◌, ◌*◌, ℕ, List, [], ◌∷◌, ◌++◌, length, All, Bool, true, false, Option, Some, None}
+use Rattle.std.specs.Prelude.{◌≡◌, ◌<◌, ◌+◌, ◌*◌, ℕ, List, [], ◌∷◌, ◌++◌, length, All, Bool, true, false, Some}
 use Rattle.ddl_types.specs.Types.{Ty, Ty.var, Sub, on}
 use Rattle.ddl_unify.specs.Equations.{Equation, MostGeneral}
-use Rattle.ddl_conditions.specs.declared.refusal.SettleError.{SettleError}
-use Rattle.ddl_conditions.specs.declared.refusal.SettleError.TheVariants as e
+use Rattle.ddl_growing.specs.declared.refusal.SettleError.{SettleError}
+use Rattle.ddl_growing.specs.declared.refusal.SettleError.TheVariants as e
 use Rattle.ddl_conditions.specs.Answer.{IsUnsettled}
-use Rattle.ddl_conditions.specs.Demands.{Asked, DemandBelow, numbered, subjects}
-use Rattle.ddl_conditions.specs.Growing.{Group, Grows, IsDone, IsFree, IsReady, State, adding_ones, equations, heads_of}
+use Rattle.ddl_judging.specs.Demands.{Asked, DemandBelow, numbered}
+use Rattle.ddl_conditions.specs.Growing.{Group, Grows, IsDone, IsFree, IsReady, State, adding_ones, equations}
 use Rattle.ddl_conditions.specs.Standing.{Stands}
-use Rattle.ddl_conditions.specs.Turns.{AreShapes, AtHeads, HasAdded, IsNoTurn, Solved}
+use Rattle.ddl_growing.specs.Turns.{AreShapes, AtHeads, HasAdded, IsNoTurn, Solved}
 
 -- the solver; the demands that were looked at and wait, and those not looked at; whether nothing was added since those behind
 -- were found waiting; and the demands whose numbers were not looked at

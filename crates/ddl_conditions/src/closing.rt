@@ -2,19 +2,18 @@
 
 ghost use Rattle.std.specs.Prelude.{◌≡◌, ◌<◌, ◌+◌, ◌∷◌, ◌++◌, [], All, IfOk, OnOk, MatchResult, length, take};
 ghost use Rattle.ddl_unify.specs.State.{solution, variables};
-ghost use Rattle.ddl_conditions.specs.Demands.{DemandBelow};
+ghost use Rattle.ddl_judging.specs.Demands.{DemandBelow};
 ghost use Rattle.ddl_conditions.specs.Closing.{IsUnmet};
 ghost use Rattle.ddl_conditions.specs.Fates.{IsClosing, IsFate, first_left};
 ghost use Rattle.ddl_conditions.specs.Settled.{AreKept};
 ghost use Rattle.ddl_conditions.specs.GroupView.{group_view};
-ghost use Rattle.ddl_conditions.specs.Views.{asked_view, demand_view};
+ghost use Rattle.ddl_judging.specs.Views.{asked_view, demand_view};
 
-use crate::demand::Asked;
 use crate::group::Group;
-use crate::judging::{Verdict, judge};
 use crate::keeping::is_kept;
-use crate::refusal::{SettleError, Wrong};
 use ddl_base::{NoMemory, Span};
+use ddl_growing::SettleError;
+use ddl_judging::{Asked, Verdict, Wrong, judge};
 use ddl_unify::Solver;
 use std::alloc::Global;
 

@@ -1,7 +1,6 @@
 //! What a group of declarations asks of its types.
 
-use crate::demand::Asked;
-use crate::shapes::Shapes;
+use ddl_judging::{Asked, Shapes};
 use ddl_types::Ty;
 
 /// What a group of declarations asks of its types.

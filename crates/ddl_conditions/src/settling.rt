@@ -5,16 +5,17 @@ ghost use Rattle.ddl_types.specs.Types.{Below};
 ghost use Rattle.ddl_unify.specs.Equations.{MostGeneral};
 ghost use Rattle.ddl_unify.specs.State.{accepted, solution, variables};
 ghost use Rattle.ddl_conditions.specs.Answer.{IsSettled, IsUnsettled};
-ghost use Rattle.ddl_conditions.specs.Demands.{DemandBelow};
+ghost use Rattle.ddl_conditions.specs.Gave.{HaveGiven};
+ghost use Rattle.ddl_judging.specs.Demands.{DemandBelow};
 ghost use Rattle.ddl_conditions.specs.GroupView.{group_view};
-ghost use Rattle.ddl_conditions.specs.SolverView.{solved};
-ghost use Rattle.ddl_conditions.specs.Turns.{AreShapes};
+ghost use Rattle.ddl_growing.specs.SolverView.{solved};
+ghost use Rattle.ddl_growing.specs.Turns.{AreShapes};
 ghost use Rattle.ddl_conditions.specs.Walking.{HasGrown, IsCut};
 
 use crate::closing::close;
 use crate::group::Group;
-use crate::refusal::SettleError;
 use crate::walk::Walk;
+use ddl_growing::SettleError;
 use ddl_types::Ty;
 use ddl_unify::Solver;
 use std::alloc::Global;
@@ -30,6 +31,7 @@ pub fn settle(
     requires shapes { AreShapes (variables solver.old) (group_view group.now).shapes }
     ensures most { MostGeneral (accepted solver.new) (solution solver.new) }
     ensures settled { MatchResult result (λ ks. IsSettled (group_view group.now) (accepted solver.old) (variables solver.old) (accepted solver.new) (solution solver.new) ks.items) (IsUnsettled (group_view group.now) (accepted solver.old) (variables solver.old) (accepted solver.new) (solution solver.new)) }
+    ensures given { IfOk result (λ _. HaveGiven (group_view group.now) (solution solver.new)) }
 {
     is_solved(solver);
     grow(alloc, solver, group)?;

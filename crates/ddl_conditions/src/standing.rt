@@ -6,11 +6,11 @@ ghost use Rattle.ddl_unify.specs.State.{solution};
 ghost use Rattle.ddl_conditions.specs.Standing.{Stands};
 ghost use Rattle.ddl_conditions.specs.Closing.{Says};
 ghost use Rattle.ddl_conditions.specs.Seen.{AreRead, IsRead, members, open_types};
-ghost use Rattle.ddl_conditions.specs.Views.{place_shape, shapes_view};
+ghost use Rattle.ddl_judging.specs.Views.{place_shape, shapes_view};
 
-use crate::shapes::Shapes;
 use crate::written::{holds, mark_places};
 use ddl_base::NoMemory;
+use ddl_judging::Shapes;
 use ddl_typed::PlaceType;
 use ddl_types::Ty;
 use ddl_unify::Solver;

@@ -2,7 +2,7 @@ use Rattle.std.proofs.Common.{◌≤◌, ℕ, List, [], length, sym, subst, Opti
 use Rattle.ddl_base.specs.declared.span.Span.{Span}
 use Rattle.ddl_types.specs.Types.{Sub}
 use Rattle.ddl_unify.specs.State.{solution}
-use Rattle.ddl_conditions.specs.Demands as d
+use Rattle.ddl_judging.specs.Demands as d
 use Rattle.ddl_conditions.specs.Fates.{IsClosing}
 use Rattle.ddl_conditions.specs.Growing.{Group}
 use Rattle.ddl_conditions.specs.GroupView.{group_view}

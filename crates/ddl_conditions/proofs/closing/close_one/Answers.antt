@@ -3,11 +3,11 @@ use Rattle.ddl_base.specs.declared.span.Span.{Span}
 use Rattle.ddl_types.specs.Types.{Sub}
 use Rattle.ddl_unify.specs.State.{solution, variables}
 use Rattle.ddl_conditions.specs.declared.closing.Fate.{Fate}
-use Rattle.ddl_conditions.specs.declared.demand.Asked.{Asked}
+use Rattle.ddl_judging.specs.declared.demand.Asked.{Asked}
 use Rattle.ddl_conditions.specs.Fates.{IsClosing, IsFate}
 use Rattle.ddl_conditions.specs.Growing.{Group}
 use Rattle.ddl_conditions.specs.GroupView.{group_view}
-use Rattle.ddl_conditions.specs.Views.{asked_view}
+use Rattle.ddl_judging.specs.Views.{asked_view}
 use Rattle.ddl_conditions.proofs.Closings.{below_at, closing_met, closing_kept, closing_left, closing_false}
 use Rattle.ddl_conditions.proofs.closing.close_one.Goals as goal
 

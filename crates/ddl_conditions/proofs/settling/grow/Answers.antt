@@ -2,8 +2,8 @@ use Rattle.std.proofs.Common.{◌≡◌, ap, map, subst, Bool, false}
 use Rattle.std.proofs.lemmas.Result.{err_from_is_err_and}
 use Rattle.ddl_unify.specs.State.{accepted, variables}
 use Rattle.ddl_conditions.specs.GroupView.{group_view}
-use Rattle.ddl_conditions.specs.SolverView.{solved}
-use Rattle.ddl_conditions.specs.Views.{asked_view}
+use Rattle.ddl_growing.specs.SolverView.{solved}
+use Rattle.ddl_judging.specs.Views.{asked_view}
 use Rattle.ddl_conditions.specs.Walking.{IsStep, Place}
 use Rattle.ddl_conditions.specs.WalkView.{place}
 use Rattle.ddl_conditions.proofs.Becoming.{asked_below, going_start, grown_over}

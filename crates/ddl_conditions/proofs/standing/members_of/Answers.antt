@@ -1,5 +1,5 @@
 use Rattle.std.proofs.Common.{◌≡◌, ◌∙◌, ◌<◌, ◌≤◌, ap, sym, length, get_or, rules, arith}
-use Rattle.ddl_conditions.specs.Shapes.{Shape}
+use Rattle.ddl_judging.specs.Shapes.{Shape}
 use Rattle.ddl_conditions.specs.Seen.{open_types}
 use Rattle.ddl_conditions.proofs.FirstFound.{place_found, place_beyond}
 use Rattle.ddl_conditions.proofs.standing.members_of.Goals as goal

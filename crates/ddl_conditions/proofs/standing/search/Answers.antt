@@ -3,9 +3,9 @@ use Rattle.std.proofs.lemmas.List.{length-map}
 use Rattle.ddl_types.specs.Types.{Ty, Sub}
 use Rattle.ddl_types.specs.TyView.{ty_view}
 use Rattle.ddl_unify.specs.State.{solution}
-use Rattle.ddl_conditions.specs.Shapes.{Shapes}
+use Rattle.ddl_judging.specs.Shapes.{Shapes}
 use Rattle.ddl_conditions.specs.Seen.{members}
-use Rattle.ddl_conditions.specs.Views.{place_shape, shapes_view}
+use Rattle.ddl_judging.specs.Views.{place_shape, shapes_view}
 use Rattle.ddl_conditions.proofs.FirstFound.{are_read}
 use Rattle.ddl_conditions.proofs.Opening.{root_found, opening_start, opening_found, opening_step, opening_end}
 use Rattle.ddl_conditions.proofs.standing.search.Goals as goal

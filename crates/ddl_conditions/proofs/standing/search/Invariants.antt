@@ -2,7 +2,7 @@ use Rattle.std.proofs.Common.{◌+◌, map, length}
 use Rattle.ddl_types.specs.TyView.{ty_view}
 use Rattle.ddl_unify.specs.State.{solution}
 use Rattle.ddl_conditions.specs.Seen.{IsOpening, unseen}
-use Rattle.ddl_conditions.specs.Views.{shapes_view}
+use Rattle.ddl_judging.specs.Views.{shapes_view}
 use Rattle.ddl_conditions.proofs.standing.search.Given as goal
 
 abbrev pub invariant-loop-place : goal.invariant-loop-place

@@ -2,13 +2,13 @@ use Rattle.std.proofs.Common.{◌≡◌, ap, sym, ◌∙◌, map, subst, ◌≤�
 use Rattle.std.proofs.lemmas.Result.{err_from_is_err_and}
 use Rattle.std.proofs.lemmas.List.Elements.{All-nil}
 use Rattle.ddl_unify.specs.State.{accepted, solution, variables}
-use Rattle.ddl_conditions.specs.declared.demand.Asked.{Asked}
-use Rattle.ddl_conditions.specs.declared.turn.Turn.{Turn}
+use Rattle.ddl_judging.specs.declared.demand.Asked.{Asked}
+use Rattle.ddl_growing.specs.declared.turn.Turn.{Turn}
 use Rattle.ddl_conditions.specs.Growing.{IsReady}
 use Rattle.ddl_conditions.specs.GroupView.{group_view}
-use Rattle.ddl_conditions.specs.SolverView.{solved}
-use Rattle.ddl_conditions.specs.Turns.{AreShapes, IsTurn, Solved}
-use Rattle.ddl_conditions.specs.Views.{asked_view}
+use Rattle.ddl_growing.specs.SolverView.{solved}
+use Rattle.ddl_growing.specs.Turns.{AreShapes, IsTurn, Solved}
+use Rattle.ddl_judging.specs.Views.{asked_view}
 use Rattle.ddl_conditions.proofs.Onwards.{silent_adds}
 use Rattle.ddl_conditions.proofs.Turning.{below_at, turn_found, turn_refused, wait_all, wait_more}
 use Rattle.ddl_conditions.proofs.walk.first_turn.Goals as goal

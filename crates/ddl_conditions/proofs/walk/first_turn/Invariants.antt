@@ -1,8 +1,8 @@
 use Rattle.std.proofs.Common.{◌≡◌, map, take}
 use Rattle.ddl_unify.specs.Equations.{MostGeneral}
 use Rattle.ddl_unify.specs.State.{accepted, solution}
-use Rattle.ddl_conditions.specs.SolverView.{solved}
-use Rattle.ddl_conditions.specs.Views.{asked_view}
+use Rattle.ddl_growing.specs.SolverView.{solved}
+use Rattle.ddl_judging.specs.Views.{asked_view}
 use Rattle.ddl_conditions.specs.Walking.{Wait}
 use Rattle.ddl_conditions.proofs.walk.first_turn.Given as goal
 

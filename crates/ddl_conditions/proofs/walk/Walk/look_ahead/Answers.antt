@@ -1,10 +1,10 @@
 use Rattle.std.proofs.Common.{◌≡◌, ap, sym, ◌∙◌, map, true, false, subst}
 use Rattle.std.proofs.lemmas.Result.{err_from_is_err_and}
-use Rattle.ddl_conditions.specs.declared.turn.Turn.{Turn}
+use Rattle.ddl_growing.specs.declared.turn.Turn.{Turn}
 use Rattle.ddl_conditions.specs.GroupView.{group_view}
-use Rattle.ddl_conditions.specs.SolverView.{solved}
-use Rattle.ddl_conditions.specs.Turns.{IsTurn}
-use Rattle.ddl_conditions.specs.Views.{asked_view}
+use Rattle.ddl_growing.specs.SolverView.{solved}
+use Rattle.ddl_growing.specs.Turns.{IsTurn}
+use Rattle.ddl_judging.specs.Views.{asked_view}
 use Rattle.ddl_conditions.specs.Walking.{Place}
 use Rattle.ddl_conditions.specs.WalkView.{place}
 use Rattle.ddl_conditions.proofs.Onwards.{ahead_adds, ahead_cut, ahead_passed, ahead_silent, ahead_waits, first_below}

@@ -6,9 +6,9 @@ use Rattle.ddl_unify.specs.Equations.{equal}
 use Rattle.ddl_unify.specs.State.{accepted}
 use Rattle.ddl_conditions.specs.GroupView.{group_view}
 use Rattle.ddl_conditions.specs.Growing.{IsFree}
-use Rattle.ddl_conditions.specs.SolverView.{solved}
-use Rattle.ddl_conditions.specs.Turns.{IsRefusal, Solved}
-use Rattle.ddl_conditions.specs.Views.{asked_view}
+use Rattle.ddl_growing.specs.SolverView.{solved}
+use Rattle.ddl_growing.specs.Turns.{IsRefusal, Solved}
+use Rattle.ddl_judging.specs.Views.{asked_view}
 use Rattle.ddl_conditions.specs.Walking.{IsFreeAt, Place}
 use Rattle.ddl_conditions.specs.WalkView.{place}
 use Rattle.ddl_conditions.proofs.Becoming.{int_below, int_view, number_cut, number_int, number_passed, numbered_below}

@@ -1,9 +1,9 @@
 use Rattle.std.proofs.Common.{◌≡◌, ◌+◌, ap, sym, ◌∙◌, map, subst, take, drop, ◌++◌, List, Bor, arith}
 use Rattle.std.proofs.lemmas.Result.{err_from_is_err_and}
-use Rattle.ddl_conditions.specs.declared.demand.Asked.{Asked}
+use Rattle.ddl_judging.specs.declared.demand.Asked.{Asked}
 use Rattle.ddl_conditions.specs.GroupView.{group_view}
-use Rattle.ddl_conditions.specs.SolverView.{solved}
-use Rattle.ddl_conditions.specs.Views.{asked_view}
+use Rattle.ddl_growing.specs.SolverView.{solved}
+use Rattle.ddl_judging.specs.Views.{asked_view}
 use Rattle.ddl_conditions.specs.Walking.{AreBelow, HasNoTurn, HasTurn, Place, Wait}
 use Rattle.ddl_conditions.specs.WalkView.{place}
 use Rattle.ddl_conditions.proofs.Onwards.{behind_cut, behind_turned, behind_waits}

@@ -1,5 +1,0 @@
-use Rattle.ddl_conditions.proofs.Searching.{bits_lookup}
-use Rattle.ddl_conditions.proofs.fields.bits_of.Goals as goal
-
-pub returns : goal.returns
-returns c = bits_lookup c.get.result c.args.shapes.now.bits.items c.deref.result.now c.args.number c.deref.ensures.value c.get.ensures.lookup.3

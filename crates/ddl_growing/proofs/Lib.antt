@@ -1,0 +1,9 @@
+pub mod Added
+pub mod Fresh
+pub mod Joined
+pub mod Knowing
+pub mod Naming
+pub mod Places
+pub mod Quiet
+pub mod Sided
+pub mod Taken

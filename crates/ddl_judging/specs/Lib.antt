@@ -1,0 +1,10 @@
+pub mod Casts
+pub mod Demands
+pub mod Judging
+pub mod Known
+pub mod Members
+pub mod Refuting
+pub mod Same
+pub mod Shapes
+pub mod VerdictView
+pub mod Views
