@@ -3,10 +3,10 @@ use Rattle.std.proofs.Common.{◌≡◌, ℕ, List, [], ◌∷◌, None, Some, t
 use Rattle.std.specs.Prelude.{codes, get_or}
 use Rattle.ddl_arith.specs.declared.operation.Op.TheVariants as o
 use Rattle.ddl_base.specs.declared.span.Span.{Span}
-use Rattle.ddl_names.specs.declared.builtin.BuiltIn.TheVariants as n
-use Rattle.ddl_names.specs.declared.resolved.Bound.{Bound}
-use Rattle.ddl_names.specs.declared.resolved.Bound.TheVariants.{Decl, Local}
-use Rattle.ddl_names.specs.declared.resolved.Use.{Use}
+use Rattle.ddl_kinds.specs.declared.builtin.BuiltIn.TheVariants as n
+use Rattle.ddl_kinds.specs.declared.bound.Bound.{Bound}
+use Rattle.ddl_kinds.specs.declared.bound.Bound.TheVariants.{Decl, Local}
+use Rattle.ddl_kinds.specs.declared.bound.Use.{Use}
 use Rattle.ddl_token.specs.declared.token.Base.TheVariants.{Decimal}
 use Rattle.ddl_tree.specs.ClassTree as y
 use Rattle.ddl_tree.specs.TypeTree as w
@@ -20,6 +20,7 @@ use Rattle.ddl_tree.specs.declared.pattern.Pat.TheVariants as p
 use Rattle.ddl_tree.specs.declared.pattern.Shape.TheVariants as h
 use Rattle.ddl_types.specs.Types.{Ty, var, con, none, more, array_of, bool, map_of, maybe_of, uint, unit}
 use Rattle.ddl_types.specs.Conditions.{key, lit, num, tag}
+use Rattle.ddl_ops.specs.declared.pattern.Pattern.TheVariants as pattern
 use Rattle.ddl_typed.specs.Tree as t
 use Rattle.ddl_rules.specs.Asks.{Ask, Env, Known, State, asks_for, unknown, wants, with_value}
 use Rattle.ddl_rules.specs.Asks as a
@@ -106,27 +107,27 @@ two_uses = refl
 
 -- just x
 just_x : fitted (p.Just (Called (name (codes "x") 25 26)) (place 20 26)) subject (scope (v ∷ [])) (before 7 [])
-    ≡ record { pattern = t.at_just (Some 1); asks = wants subject (maybe_type (var 7)) (place 20 26) ∷ []; env = scope (v ∷ value 1 25 26 (var 7) ∷ []); state = before 8 [] }
+    ≡ record { pattern = pattern.Just (Some 1); asks = wants subject (maybe_type (var 7)) (place 20 26) ∷ []; env = scope (v ∷ value 1 25 26 (var 7) ∷ []); state = before 8 [] }
 just_x = refl
 
 -- 'a'
 letter : fitted (p.Char 97 (place 20 23)) subject (scope (v ∷ [])) (before 7 [])
-    ≡ record { pattern = t.at_number 97; asks = wants subject byte_type (place 20 23) ∷ []; env = scope (v ∷ []); state = before 7 [] }
+    ≡ record { pattern = pattern.Number 97; asks = wants subject byte_type (place 20 23) ∷ []; env = scope (v ∷ []); state = before 7 [] }
 letter = refl
 
 -- some _: what is asked stands at the whole pattern
 some_content : fitted (p.Tag (name (codes "some") 20 24) (Some (Ignored (place 25 26))) (place 20 26)) subject (scope (v ∷ [])) (before 7 [])
-    ≡ record { pattern = t.at_tag (codes "some") None; asks = asks_for (tag subject (codes "some") (var 7)) (place 20 26) ∷ []; env = scope (v ∷ []); state = before 8 [] }
+    ≡ record { pattern = pattern.Tag (codes "some") None; asks = asks_for (tag subject (codes "some") (var 7)) (place 20 26) ∷ []; env = scope (v ∷ []); state = before 8 [] }
 some_content = refl
 
 -- v is some: the tag is asked at the whole form
 is_some : guarded (h.IsTag (name (codes "some") 15 19)) subject (place 10 19) (before 7 [])
-    ≡ record { pattern = t.at_tag (codes "some") None; asks = asks_for (tag subject (codes "some") (var 7)) (place 10 19) ∷ []; of = var 7; state = before 8 [] }
+    ≡ record { pattern = pattern.Tag (codes "some") None; asks = asks_for (tag subject (codes "some") (var 7)) (place 10 19) ∷ []; of = var 7; state = before 8 [] }
 is_some = refl
 
 -- v is true: `bool` is asked at the word
 is_true : guarded (h.IsTrue (place 15 19)) subject (place 10 19) (before 7 [])
-    ≡ record { pattern = t.at_truth true; asks = wants subject (con bool none) (place 15 19) ∷ []; of = con unit none; state = before 7 [] }
+    ≡ record { pattern = pattern.Truth true; asks = wants subject (con bool none) (place 15 19) ∷ []; of = con unit none; state = before 7 [] }
 is_true = refl
 
 -- ---- turns

@@ -6,9 +6,9 @@ use Rattle.ddl_tree.specs.declared.kind.Kind.TheVariants as k
 use Rattle.ddl_types.specs.Types.{Ty, Ty.con, Tys.none, Tys.more, Head.unit, Head.array_of, Head.map_of, Head.maybe_of, Head.uint, Head.bool, Head.stream, Head.place}
 use Rattle.ddl_types.specs.Conditions.{Condition}
 use Rattle.ddl_unify.specs.Equations.{Equation, equal}
-use Rattle.ddl_conditions.specs.Demands.{Demand, condition}
-use Rattle.ddl_names.specs.declared.resolved.Bound.{Bound}
-use Rattle.ddl_names.specs.declared.resolved.Use.{Use}
+use Rattle.ddl_judging.specs.Demands.{Demand, condition}
+use Rattle.ddl_kinds.specs.declared.bound.Bound.{Bound}
+use Rattle.ddl_kinds.specs.declared.bound.Use.{Use}
 use Rattle.ddl_typed.specs.Specification.{Place}
 
 -- an equation or a demand, with the place where it stands

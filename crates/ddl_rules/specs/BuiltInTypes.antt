@@ -1,10 +1,12 @@
 -- The typing of built-in names with their arguments.
 use Rattle.std.specs.Prelude.{ℕ, ◌+◌, List, [], ◌∷◌, Option, Some, None}
-use Rattle.ddl_names.specs.declared.builtin.BuiltIn.{BuiltIn}
-use Rattle.ddl_names.specs.declared.builtin.BuiltIn.TheVariants as b
+use Rattle.ddl_kinds.specs.declared.builtin.BuiltIn.{BuiltIn}
+use Rattle.ddl_kinds.specs.declared.builtin.BuiltIn.TheVariants as b
 use Rattle.ddl_types.specs.Types.{Ty, Ty.var}
 use Rattle.ddl_types.specs.Conditions.{Condition, key}
-use Rattle.ddl_typed.specs.Tree.{Expr, Form, uint8, end, match, primitive, builtin, get_stream, offset, set_stream, take_from, drop_from, index, lookup_key, insert_key, length_of, concat_of, array_stream, bytes_of_stream, empty_map, insert_into, lookup_in, fail}
+use Rattle.ddl_ops.specs.declared.operators.Builtin.TheVariants.{Length, Concat, ArrayStream, BytesOfStream, Empty, InsertInto, LookupIn}
+use Rattle.ddl_ops.specs.declared.operators.Primitive.TheVariants.{GetStream, Offset, SetStream, Take, Drop, Index, Lookup, Insert}
+use Rattle.ddl_typed.specs.Tree.{Expr, Form, uint8, end, match, primitive, builtin, fail}
 use Rattle.ddl_types.specs.CondView.{cond_view}
 use Rattle.ddl_types.specs.declared.cond.Cond.{Cond}
 use Rattle.ddl_typed.specs.View.{exprs_of}
@@ -53,22 +55,22 @@ abbrev pub builtin_form : BuiltIn → ℕ → List Expr → Form
 builtin_form b.UInt8 n es = uint8
 builtin_form b.Match n es = matched es
 builtin_form b.End n es = end
-builtin_form b.GetStream n es = primitive get_stream (exprs_of es)
-builtin_form b.Offset n es = primitive offset (exprs_of es)
-builtin_form b.SetStream n es = primitive set_stream (exprs_of es)
-builtin_form b.Take n es = primitive take_from (exprs_of es)
-builtin_form b.Drop n es = primitive drop_from (exprs_of es)
-builtin_form b.Index n es = primitive index (exprs_of es)
-builtin_form b.Lookup n es = primitive lookup_key (exprs_of es)
-builtin_form b.Insert n es = primitive insert_key (exprs_of es)
+builtin_form b.GetStream n es = primitive GetStream (exprs_of es)
+builtin_form b.Offset n es = primitive Offset (exprs_of es)
+builtin_form b.SetStream n es = primitive SetStream (exprs_of es)
+builtin_form b.Take n es = primitive Take (exprs_of es)
+builtin_form b.Drop n es = primitive Drop (exprs_of es)
+builtin_form b.Index n es = primitive Index (exprs_of es)
+builtin_form b.Lookup n es = primitive Lookup (exprs_of es)
+builtin_form b.Insert n es = primitive Insert (exprs_of es)
 builtin_form b.Fail n es = fail n
-builtin_form b.Length n es = builtin length_of (exprs_of es)
-builtin_form b.Concat n es = builtin concat_of (exprs_of es)
-builtin_form b.ArrayStream n es = builtin array_stream (exprs_of es)
-builtin_form b.BytesOfStream n es = builtin bytes_of_stream (exprs_of es)
-builtin_form b.Empty n es = builtin empty_map (exprs_of es)
-builtin_form b.Put n es = builtin insert_into (exprs_of es)
-builtin_form b.Seek n es = builtin lookup_in (exprs_of es)
+builtin_form b.Length n es = builtin Length (exprs_of es)
+builtin_form b.Concat n es = builtin Concat (exprs_of es)
+builtin_form b.ArrayStream n es = builtin ArrayStream (exprs_of es)
+builtin_form b.BytesOfStream n es = builtin BytesOfStream (exprs_of es)
+builtin_form b.Empty n es = builtin Empty (exprs_of es)
+builtin_form b.Put n es = builtin InsertInto (exprs_of es)
+builtin_form b.Seek n es = builtin LookupIn (exprs_of es)
 
 -- the conditions of a name that asks one or none
 abbrev pub conditions_of : Option Cond → List Condition

@@ -1,7 +1,7 @@
 -- Classes as they are written, with what binds their names.
 use Rattle.std.specs.Prelude.{◌≡◌, ℕ, List, [], ◌∷◌, ◌++◌, nat_le, if◌then◌else◌, Option, Some, None}
-use Rattle.ddl_names.specs.declared.resolved.Bound.{Bound}
-use Rattle.ddl_names.specs.declared.resolved.Bound.TheVariants as b
+use Rattle.ddl_kinds.specs.declared.bound.Bound.{Bound}
+use Rattle.ddl_kinds.specs.declared.bound.Bound.TheVariants as b
 use Rattle.ddl_tree.specs.declared.name.ByteLit.{ByteLit}
 use Rattle.ddl_tree.specs.declared.name.ByteLit.TheVariants.{Code, Quoted}
 use Rattle.ddl_tree.specs.ClassTree as y

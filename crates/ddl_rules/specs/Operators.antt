@@ -2,9 +2,9 @@
 use Rattle.ddl_arith.specs.declared.operation.Op.TheVariants as o
 use Rattle.ddl_tree.specs.declared.operator.InfixOp.{InfixOp}
 use Rattle.ddl_tree.specs.declared.operator.InfixOp.TheVariants as i
-use Rattle.ddl_typed.specs.declared.operators.Comparison.TheVariants as c
-use Rattle.ddl_typed.specs.declared.operators.Infix.TheVariants as f
-use Rattle.ddl_typed.specs.declared.operators.Choice.TheVariants as h
+use Rattle.ddl_ops.specs.declared.operators.Comparison.TheVariants as c
+use Rattle.ddl_ops.specs.declared.operators.Infix.TheVariants as f
+use Rattle.ddl_typed.specs.declared.parts.Choice.TheVariants as h
 use Rattle.ddl_rules.specs.declared.operators.Typing.{Typing}
 use Rattle.ddl_rules.specs.declared.operators.Typing.TheVariants.{Numbers, Shifts, Words, Compares, Truths, Joins, ShiftsIn, Alternatives}
 

@@ -13,17 +13,16 @@ use Rattle.ddl_types.specs.Types.{Ty, Ty.var}
 use Rattle.ddl_types.specs.TyView.{ty_view}
 use Rattle.ddl_types.specs.declared.ty.Ty as program
 use Rattle.ddl_types.specs.Conditions.{lit, tag}
-use Rattle.ddl_typed.specs.Tree as t
-use Rattle.ddl_typed.specs.PartView.{binder_view, pattern_view}
-use Rattle.ddl_typed.specs.declared.operators.Pattern.{Pattern}
-use Rattle.ddl_typed.specs.declared.operators.Binder as turn
+use Rattle.ddl_ops.specs.declared.pattern.Pattern.{Pattern}
+use Rattle.ddl_ops.specs.declared.pattern.Pattern.TheVariants as t
+use Rattle.ddl_typed.specs.declared.parts.Binder as turn
 use Rattle.ddl_rules.specs.declared.elaboration.Elaboration.{Elaboration}
 use Rattle.ddl_rules.specs.Asks.{Ask, Env, State, wants, asks_for, unit_type, bool_type, word, maybe, after_variables, with_value}
 use Rattle.ddl_rules.specs.Steps.{GoesOn}
 
 -- a pattern of a value of this type: what it asks, the names that it gives, and what is left
 pub record Fitted : Type 0 where
-  pub pattern : t.Pattern
+  pub pattern : Pattern
   pub asks : List Ask
   pub env : Env
   pub state : State
@@ -46,46 +45,46 @@ with_content (Some b) t env = with_binder b t env
 
 -- an equation or a demand of a pattern stands at the pattern, with the subject's type on the left
 abbrev pub fitted : Pat → Ty → Env → State → Fitted
-fitted (p.Any s) u env z = record { pattern = t.any; asks = []; env = env; state = z }
-fitted (p.Num n) u env z = record { pattern = t.at_number n.value; asks = asks_for (lit n.value u) n.span ∷ []; env = env; state = z }
-fitted (p.Char b s) u env z = record { pattern = t.at_number b; asks = wants u (word 8) s ∷ []; env = env; state = z }
-fitted (p.True s) u env z = record { pattern = t.at_truth true; asks = wants u bool_type s ∷ []; env = env; state = z }
-fitted (p.False s) u env z = record { pattern = t.at_truth false; asks = wants u bool_type s ∷ []; env = env; state = z }
-fitted (p.Nothing s) u env z = record { pattern = t.at_nothing; asks = wants u (maybe (var z.next)) s ∷ []; env = env; state = after_variables 1 z }
-fitted (p.Just b s) u env z = record { pattern = t.at_just (bound_number b env); asks = wants u (maybe (var z.next)) s ∷ []; env = with_binder b (var z.next) env; state = after_variables 1 z }
-fitted (p.Tag x b s) u env z = record { pattern = t.at_tag x.text (content_number b env); asks = asks_for (tag u x.text (var z.next)) s ∷ []; env = with_content b (var z.next) env; state = after_variables 1 z }
+fitted (p.Any s) u env z = record { pattern = t.Any; asks = []; env = env; state = z }
+fitted (p.Num n) u env z = record { pattern = t.Number n.value; asks = asks_for (lit n.value u) n.span ∷ []; env = env; state = z }
+fitted (p.Char b s) u env z = record { pattern = t.Number b; asks = wants u (word 8) s ∷ []; env = env; state = z }
+fitted (p.True s) u env z = record { pattern = t.Truth true; asks = wants u bool_type s ∷ []; env = env; state = z }
+fitted (p.False s) u env z = record { pattern = t.Truth false; asks = wants u bool_type s ∷ []; env = env; state = z }
+fitted (p.Nothing s) u env z = record { pattern = t.Nothing; asks = wants u (maybe (var z.next)) s ∷ []; env = env; state = after_variables 1 z }
+fitted (p.Just b s) u env z = record { pattern = t.Just (bound_number b env); asks = wants u (maybe (var z.next)) s ∷ []; env = with_binder b (var z.next) env; state = after_variables 1 z }
+fitted (p.Tag x b s) u env z = record { pattern = t.Tag x.text (content_number b env); asks = asks_for (tag u x.text (var z.next)) s ∷ []; env = with_content b (var z.next) env; state = after_variables 1 z }
 
 -- this is the pattern, and elaboration goes on so
 pub record IsFitted (p : Pattern) (f : Fitted) (old now : Elaboration) : Type 0 where
-  pub fits : pattern_view p ≡ f.pattern
+  pub fits : p ≡ f.pattern
   pub goes_on : GoesOn f.asks f.state f.env old now
 
 -- ---- `is`
 
 -- its equation stands at the word behind it, and what it asks of a tag at the whole form; its value is the content
 pub record Guarded : Type 0 where
-  pub pattern : t.Pattern
+  pub pattern : Pattern
   pub asks : List Ask
   pub of : Ty
   pub state : State
 
 abbrev pub guarded : Shape → Ty → Span → State → Guarded
-guarded (h.IsTag x) u s z = record { pattern = t.at_tag x.text None; asks = asks_for (tag u x.text (var z.next)) s ∷ []; of = var z.next; state = after_variables 1 z }
-guarded (h.IsTrue w) u s z = record { pattern = t.at_truth true; asks = wants u bool_type w ∷ []; of = unit_type; state = z }
-guarded (h.IsFalse w) u s z = record { pattern = t.at_truth false; asks = wants u bool_type w ∷ []; of = unit_type; state = z }
-guarded (h.IsJust w) u s z = record { pattern = t.at_just None; asks = wants u (maybe (var z.next)) w ∷ []; of = var z.next; state = after_variables 1 z }
-guarded (h.IsNothing w) u s z = record { pattern = t.at_nothing; asks = wants u (maybe (var z.next)) w ∷ []; of = unit_type; state = after_variables 1 z }
+guarded (h.IsTag x) u s z = record { pattern = t.Tag x.text None; asks = asks_for (tag u x.text (var z.next)) s ∷ []; of = var z.next; state = after_variables 1 z }
+guarded (h.IsTrue w) u s z = record { pattern = t.Truth true; asks = wants u bool_type w ∷ []; of = unit_type; state = z }
+guarded (h.IsFalse w) u s z = record { pattern = t.Truth false; asks = wants u bool_type w ∷ []; of = unit_type; state = z }
+guarded (h.IsJust w) u s z = record { pattern = t.Just None; asks = wants u (maybe (var z.next)) w ∷ []; of = var z.next; state = after_variables 1 z }
+guarded (h.IsNothing w) u s z = record { pattern = t.Nothing; asks = wants u (maybe (var z.next)) w ∷ []; of = unit_type; state = after_variables 1 z }
 
 -- this is the pattern, and the type of the content
 pub record IsGuarded (p : Pattern) (t : program.Ty) (g : Guarded) (env : Env) (old now : Elaboration) : Type 0 where
-  pub fits : pattern_view p ≡ g.pattern
+  pub fits : p ≡ g.pattern
   pub typed : ty_view t ≡ g.of
   pub goes_on : GoesOn g.asks g.state env old now
 
 -- ---- turns
 
 -- one name alone is that of the element, else the first is that of the key or position
-abbrev pub turn_binder : Option Name → Env → t.Binder
+abbrev pub turn_binder : Option Name → Env → turn.Binder
 turn_binder None env = record { key = None; element = length env.locals }
 turn_binder (Some x) env = record { key = Some (length env.locals); element = length env.locals + 1 }
 
@@ -95,5 +94,5 @@ with_names s (Some x) k v env = with_value x.span v (with_value s k env)
 
 -- this is the binder of a turn, and its names are in scope
 pub record IsTurn (b : turn.Binder) (ns : Names) (k v : Ty) (old : Env) (state : State) (before now : Elaboration) : Type 0 where
-  pub binds : binder_view b ≡ turn_binder ns.second old
+  pub binds : b ≡ turn_binder ns.second old
   pub goes_on : GoesOn [] state (with_names ns.first.span ns.second k v old) before now

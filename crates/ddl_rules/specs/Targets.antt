@@ -1,14 +1,14 @@
 -- What a name with arguments stands for.
 use Rattle.std.specs.Prelude.{◌≡◌, ℕ, List, [], map, Option, Some, None}
 use Rattle.ddl_base.specs.declared.span.Span.{Span}
-use Rattle.ddl_names.specs.declared.builtin.BuiltIn.{BuiltIn}
-use Rattle.ddl_names.specs.declared.resolved.Bound.{Bound}
-use Rattle.ddl_names.specs.declared.resolved.Bound.TheVariants as b
+use Rattle.ddl_kinds.specs.declared.builtin.BuiltIn.{BuiltIn}
+use Rattle.ddl_kinds.specs.declared.bound.Bound.{Bound}
+use Rattle.ddl_kinds.specs.declared.bound.Bound.TheVariants as b
 use Rattle.ddl_tree.specs.declared.kind.Kind.{Kind}
 use Rattle.ddl_types.specs.Types.{Ty, on}
 use Rattle.ddl_types.specs.TyView.{ty_view}
 use Rattle.ddl_types.specs.Conditions.{Condition, on_condition}
-use Rattle.ddl_conditions.specs.Shapes.{at}
+use Rattle.ddl_judging.specs.Shapes.{at}
 use Rattle.ddl_rules.specs.declared.elaboration.Elaboration.{Elaboration}
 use Rattle.ddl_rules.specs.declared.target.Meant.{Meant}
 use Rattle.ddl_rules.specs.declared.target.Meant.TheVariants as m

@@ -3,7 +3,7 @@ use Rattle.std.specs.Prelude.{ℕ, List, map, get_or}
 use Rattle.ddl_types.specs.TyView.{ty_view}
 use Rattle.ddl_types.specs.CondView.{cond_view}
 use Rattle.ddl_unify.specs.Equations.{equal}
-use Rattle.ddl_conditions.specs.Views.{demand_view}
+use Rattle.ddl_judging.specs.Views.{demand_view}
 use Rattle.ddl_typed.specs.SpecificationView.{place_view}
 use Rattle.ddl_rules.specs.declared.ask.Ask.{Ask}
 use Rattle.ddl_rules.specs.declared.ask.Ask.TheVariants as A

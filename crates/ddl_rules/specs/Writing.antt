@@ -1,12 +1,12 @@
 -- Written types: which type each is, and the first that is none.
 use Rattle.std.specs.Prelude.{◌≡◌, ℕ, ◌&&◌, [], nat_le, if◌then◌else◌, Option, Some}
-use Rattle.ddl_names.specs.declared.resolved.Bound.{Bound}
-use Rattle.ddl_names.specs.declared.resolved.Bound.TheVariants as b
+use Rattle.ddl_kinds.specs.declared.bound.Bound.{Bound}
+use Rattle.ddl_kinds.specs.declared.bound.Bound.TheVariants as b
 use Rattle.ddl_tree.specs.TypeTree as y
 use Rattle.ddl_types.specs.Types.{Ty, Ty.con, Tys.none, Head, Head.int, Head.uint, Head.sint, on}
 use Rattle.ddl_types.specs.TyView.{ty_view}
 use Rattle.ddl_types.specs.declared.ty.Ty as program
-use Rattle.ddl_conditions.specs.Shapes.{at}
+use Rattle.ddl_judging.specs.Shapes.{at}
 use Rattle.ddl_rules.specs.declared.elaboration.Elaboration.{Elaboration}
 use Rattle.ddl_rules.specs.Asks.{Env, Known, State, unit_type, bool_type, stream_type, array, maybe, map_type, bound_next, after_use, after_variables}
 use Rattle.ddl_rules.specs.Steps.{GoesOn}

@@ -1,7 +1,7 @@
 //! What forms ask of types.
 
 use ddl_base::Span;
-use ddl_conditions::Demand;
+use ddl_judging::Demand;
 use ddl_types::Ty;
 
 /// What is asked of types, and where.

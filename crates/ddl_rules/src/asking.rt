@@ -3,14 +3,14 @@
 ghost use Rattle.std.specs.Prelude.{◌≡◌, [], ◌∷◌, IfOk, OnOk, length};
 ghost use Rattle.ddl_types.specs.CondView.{cond_view};
 ghost use Rattle.ddl_types.specs.TyView.{ty_view};
-ghost use Rattle.ddl_conditions.specs.Views.{demand_view};
+ghost use Rattle.ddl_judging.specs.Views.{demand_view};
 ghost use Rattle.ddl_rules.specs.Asks.{asks_for, demands, wants};
 ghost use Rattle.ddl_rules.specs.Steps.{Asks, Fills, held};
 ghost use Rattle.ddl_rules.specs.Views.{ask_view, asks_of};
 
 use crate::{Ask, Elaboration, types};
 use ddl_base::{NoMemory, Span};
-use ddl_conditions::Demand;
+use ddl_judging::Demand;
 use ddl_types::{Cond, Ty};
 use std::mem;
 

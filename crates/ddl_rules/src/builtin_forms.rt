@@ -1,19 +1,19 @@
 //! The forms of built-in names.
 
 ghost use Rattle.std.specs.Prelude.{◌≡◌, IfOk, map};
-ghost use Rattle.ddl_typed.specs.PartView.{builtin_view, primitive_view};
 ghost use Rattle.ddl_typed.specs.Tree as t;
 ghost use Rattle.ddl_typed.specs.View.{exprs_of, form_view, view};
 ghost use Rattle.ddl_rules.specs.BuiltInTypes.{builtin_form, matched};
 
 use ddl_base::NoMemory;
-use ddl_names::BuiltIn;
-use ddl_typed::{Builtin, Primitive, TExpr, TForm};
+use ddl_kinds::BuiltIn;
+use ddl_ops::{Builtin, Primitive};
+use ddl_typed::{TExpr, TForm};
 use std::alloc::Global;
 
 #[tactic(auto, using(ddl_typed::proofs::Layers::layers))]
 fn primitive_form(primitive: Primitive, arguments: Vec<TExpr>) -> TForm
-    ensures { form_view result ≡ t.primitive (primitive_view primitive) (exprs_of (map view arguments.items)) }
+    ensures { form_view result ≡ t.primitive primitive (exprs_of (map view arguments.items)) }
 {
     TForm::Primitive {
         primitive,
@@ -23,7 +23,7 @@ fn primitive_form(primitive: Primitive, arguments: Vec<TExpr>) -> TForm
 
 #[tactic(auto, using(ddl_typed::proofs::Layers::layers))]
 fn value_form(builtin: Builtin, arguments: Vec<TExpr>) -> TForm
-    ensures { form_view result ≡ t.builtin (builtin_view builtin) (exprs_of (map view arguments.items)) }
+    ensures { form_view result ≡ t.builtin builtin (exprs_of (map view arguments.items)) }
 {
     TForm::Builtin { builtin, arguments }
 }

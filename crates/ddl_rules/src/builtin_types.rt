@@ -9,7 +9,7 @@ ghost use Rattle.ddl_rules.specs.BuiltInTypes.{builtin_row, conditions_of};
 
 use crate::types;
 use ddl_base::NoMemory;
-use ddl_names::BuiltIn;
+use ddl_kinds::BuiltIn;
 use ddl_types::{Cond, Ty};
 use std::alloc::Global;
 

@@ -11,7 +11,7 @@ ghost use Rattle.ddl_rules.specs.Views.{env_of, state_of};
 
 use crate::{Elaboration, types};
 use ddl_base::{NoMemory, Span};
-use ddl_names::Bound;
+use ddl_kinds::Bound;
 use ddl_tree::{ByteLit, Cls};
 use ddl_typed::TClass;
 use ddl_types::Cond;

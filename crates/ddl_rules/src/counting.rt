@@ -7,7 +7,7 @@ ghost use Rattle.ddl_rules.specs.Views.{env_of, state_of};
 
 use crate::Elaboration;
 use ddl_base::NoMemory;
-use ddl_names::Bound;
+use ddl_kinds::Bound;
 
 // A number with so many behind it.
 fn behind(number: u32, count: u32) -> Result<u32, NoMemory>

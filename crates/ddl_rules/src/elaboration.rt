@@ -2,7 +2,7 @@
 
 use crate::{Ask, Known, Local};
 use ddl_base::Bytes;
-use ddl_names::Use;
+use ddl_kinds::Use;
 use ddl_typed::PlaceType;
 use std::alloc::Global;
 

@@ -16,8 +16,6 @@ mod operators;
 mod patterns;
 mod refusing;
 mod renaming;
-#[cfg(test)]
-mod rows;
 mod scope;
 mod target;
 mod turns;

@@ -4,11 +4,12 @@ ghost use Rattle.std.specs.Prelude.{◌≡◌};
 ghost use Rattle.ddl_rules.specs.Operators.{typing};
 
 use ddl_arith::Op;
+use ddl_ops::{Comparison, Infix};
 use ddl_tree::InfixOp;
-use ddl_typed::{Choice, Comparison, Infix};
+use ddl_typed::Choice;
 
 /// How the sides of an infix operator are typed.
-#[derive(Clone, Copy, Debug, PartialEq, Eq)]
+#[derive(Clone, Copy, PartialEq, Eq)]
 pub enum Typing {
     /// Numbers of one type, which is that of the form.
     Numbers(Op),

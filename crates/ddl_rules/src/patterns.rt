@@ -11,8 +11,8 @@ ghost use Rattle.ddl_rules.specs.Views.{env_of, state_of};
 
 use crate::{Elaboration, types};
 use ddl_base::{Bytes, NoMemory, Span};
+use ddl_ops::Pattern;
 use ddl_tree::{Binder, Name, Number, Pat};
-use ddl_typed::Pattern;
 use ddl_types::{Cond, Ty};
 
 impl<'a> Elaboration<'a> {

@@ -8,7 +8,7 @@ use ddl_base::Span;
 use ddl_tree::TypeExpr;
 
 /// Why a written type is none.
-#[derive(Clone, Copy, Debug, PartialEq, Eq)]
+#[derive(Clone, Copy, PartialEq, Eq)]
 pub enum TypeRefusal {
     /// A width is 1 to 128.
     WidthRange { span: Span, width: u128 },

@@ -3,7 +3,7 @@
 ghost use Rattle.std.specs.Prelude.{◌≡◌, [], IfOk, OnOk, map};
 ghost use Rattle.ddl_types.specs.CondView.{cond_view};
 ghost use Rattle.ddl_types.specs.Conditions.{on_condition};
-ghost use Rattle.ddl_conditions.specs.Shapes.{at};
+ghost use Rattle.ddl_judging.specs.Shapes.{at};
 ghost use Rattle.ddl_rules.specs.Asks.{after_use, asks_for, bound_next, local_at};
 ghost use Rattle.ddl_rules.specs.BuiltInTypes.{builtin_row};
 ghost use Rattle.ddl_rules.specs.Steps.{Asks};
@@ -14,12 +14,12 @@ use crate::builtin_types::{builtin_condition, builtin_of, builtin_params, builti
 use crate::renaming::{renumbered, renumbered_all, renumbered_cond};
 use crate::{Elaboration, types};
 use ddl_base::{NoMemory, Span};
-use ddl_names::{Bound, BuiltIn};
+use ddl_kinds::{Bound, BuiltIn};
 use ddl_tree::Kind;
 use ddl_types::{Cond, Ty};
 
 /// What a name means.
-#[derive(Clone, Copy, Debug, PartialEq, Eq)]
+#[derive(Clone, Copy, PartialEq, Eq)]
 pub enum Meant {
     /// The declaration of this number, at so many variables from the first one on.
     Declaration { number: u32, vars: u32, first: u32 },

@@ -11,7 +11,7 @@ ghost use Rattle.ddl_rules.specs.Writing.{IsWritten, of_bound, of_known, sized, 
 use crate::renaming::renumbered;
 use crate::{Elaboration, types};
 use ddl_base::NoMemory;
-use ddl_names::Bound;
+use ddl_kinds::Bound;
 use ddl_tree::TypeExpr;
 use ddl_types::Ty;
 

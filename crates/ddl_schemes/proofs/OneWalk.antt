@@ -2,7 +2,7 @@
 use Rattle.std.proofs.Common.{◌≡◌, List, ap, refl}
 use Rattle.std.specs.Prelude.{ℕ}
 use Rattle.ddl_types.specs.Types.{Ty, Sub}
-use Rattle.ddl_conditions.specs.Shapes.{Shapes}
+use Rattle.ddl_judging.specs.Shapes.{Shapes}
 use Rattle.ddl_schemes.specs.Order.{AreVariables, Seen, Walks}
 
 -- two walks from one place end in one

@@ -5,7 +5,7 @@ use Rattle.std.proofs.lemmas.Bool.Decides.{eqb_tells}
 use Rattle.ddl_types.specs.Types.{Ty, Ty.var, Ty.con, Tys, Tys.none, Tys.more, Sub, on, Head}
 use Rattle.ddl_types.specs.Types as t
 use Rattle.ddl_unify.specs.Occurs.{size_all}
-use Rattle.ddl_conditions.specs.Shapes.{Shape, Shapes, place_at}
+use Rattle.ddl_judging.specs.Shapes.{Shape, Shapes, place_at}
 use Rattle.ddl_schemes.specs.Order.{Seen, among, is_new, members, parts, with_head, with_variable}
 use Rattle.ddl_schemes.specs.Owed.{closed, owed, sizes}
 use Rattle.ddl_schemes.specs.Steps.{behind, seen_after}

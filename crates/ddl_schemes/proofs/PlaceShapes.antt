@@ -1,8 +1,8 @@
 -- Where the shape of a place stands in the list, and where there is none.
 use Rattle.std.proofs.Common.{◌≡◌, ℕ, zero, suc, ◌<◌, ◌≤◌, List, [], ◌∷◌, map, get_or, length, refl, sym, ap, arith}
 use Rattle.ddl_typed.specs.declared.specification.PlaceType.{PlaceType}
-use Rattle.ddl_conditions.specs.Shapes.{no_shape, place_at}
-use Rattle.ddl_conditions.specs.Views.{place_shape}
+use Rattle.ddl_judging.specs.Shapes.{no_shape, place_at}
+use Rattle.ddl_judging.specs.Views.{place_shape}
 
 pub place_found : (xs : List PlaceType) (p : ℕ) (x : PlaceType) → p < length xs → x ≡ get_or xs p x → place_at (map place_shape xs) p ≡ place_shape x
 place_found [] p x h e = absurd (omega arith)

@@ -2,7 +2,7 @@
 use Rattle.std.specs.Prelude.{◌≡◌, ◌==◌, [], ◌∷◌, refl, map, true, false, if◌then◌else◌}
 use Rattle.ddl_types.specs.Types.{Ty.var, Ty.con, Tys.none, Tys.more, Sub, Head.int, Head.bool, Head.unit, Head.array_of, Head.map_of, Head.place, on}
 use Rattle.ddl_types.specs.Conditions.{field, lossless, num}
-use Rattle.ddl_conditions.specs.Shapes.{Shapes}
+use Rattle.ddl_judging.specs.Shapes.{Shapes}
 use Rattle.ddl_schemes.specs.Order.{AreVariables, Walks}
 use Rattle.ddl_schemes.specs.Renaming.{renaming, shared, shared_condition}
 

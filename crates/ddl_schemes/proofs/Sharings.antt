@@ -1,11 +1,11 @@
 -- Types as they are seen from other groups.
-use Rattle.std.proofs.Common.{◌≡◌, ℕ, zero, suc, ◌+◌, List, [], ◌∷◌, ◌++◌, Bool, true, false, map, nat_le, if◌then◌else◌, refl, sym, ap, ◌∙◌, arith}
+use Rattle.std.proofs.Common.{◌≡◌, ℕ, zero, suc, ◌+◌, List, [], ◌∷◌, ◌++◌, Bool, true, false, map, length, nat_le, if◌then◌else◌, refl, ap, ◌∙◌, arith}
 use Rattle.ddl_types.specs.declared.ty.Ty as program
-use Rattle.ddl_types.specs.Types.{Ty, Ty.var, Ty.con, Tys, Tys.none, Tys.more, Sub, Head.place, on, tys_of}
+use Rattle.ddl_types.specs.Types.{Ty, Ty.var, Ty.con, Tys, Tys.none, Tys.more, Sub, Head.place, tys_of}
 use Rattle.ddl_types.specs.TyView.{ty_view}
-use Rattle.ddl_types.specs.Conditions.{Condition, on_condition}
-use Rattle.ddl_conditions.specs.Shapes.{fresh}
-use Rattle.ddl_schemes.specs.Renaming.{shared, shared_all, shared_condition}
+use Rattle.ddl_types.specs.Conditions.{Condition, num, on_condition, with_types}
+use Rattle.ddl_judging.specs.Shapes.{fresh}
+use Rattle.ddl_schemes.specs.Renaming.{renaming, seen, shared, shared_all, shared_condition}
 use Rattle.ddl_schemes.specs.SharedParts.{shared_parts}
 
 one_more : (xs : List program.Ty) (x : program.Ty) (k n m : ℕ) → ty_view x ≡ var m → m ≡ n + k → tys_of (map ty_view xs) ≡ fresh k n → tys_of (map ty_view (xs ++ x ∷ [])) ≡ fresh (suc k) n
@@ -39,18 +39,8 @@ shared_place first n p ts = by_test (nat_le first p) p (fresh n 0) (shared_all f
 
 pub ruleset sharings = (shared_list, shared_place)
 
--- a type, and a condition, as they are solved by the first map, numbered by the second and seen from other groups
-abbrev pub seen_type : ℕ → ℕ → Sub → Sub → Ty → Ty
-seen_type first n f g t = shared first n (on (on t f) g)
-
-abbrev pub seen_condition : ℕ → ℕ → Sub → Sub → Condition → Condition
-seen_condition first n f g c = shared_condition first n (on_condition g (on_condition f c))
-
-module _ (first n : ℕ) (f g : Sub) where
-  -- a condition each of whose types was seen by itself
-  pub two_seen : (k : Ty → Ty → Condition) → ((x y : Ty) → seen_condition first n f g (k x y) ≡ k (seen_type first n f g x) (seen_type first n f g y)) → (c : Condition) (x y a b : Ty) → c ≡ k x y → a ≡ seen_type first n f g x → b ≡ seen_type first n f g y → k a b ≡ seen_condition first n f g c
-  two_seen k h c x y a b e p q = ap (λ t. k t b) p ∙ ap (k (seen_type first n f g x)) q ∙ sym (h x y) ∙ ap (seen_condition first n f g) (sym e)
-
-  pub three_seen : (k : Ty → Ty → Ty → Condition) → ((x y z : Ty) → seen_condition first n f g (k x y z) ≡ k (seen_type first n f g x) (seen_type first n f g y) (seen_type first n f g z)) → (c : Condition) (x y z a b d : Ty) → c ≡ k x y z → a ≡ seen_type first n f g x → b ≡ seen_type first n f g y → d ≡ seen_type first n f g z → k a b d ≡ seen_condition first n f g c
-  three_seen k h c x y z a b d e p q r =
-      ap (λ t. k t b d) p ∙ ap (λ t. k (seen_type first n f g x) t d) q ∙ ap (k (seen_type first n f g x) (seen_type first n f g y)) r ∙ sym (h x y z) ∙ ap (seen_condition first n f g) (sym e)
+-- a condition whose types are seen from elsewhere is seen from there
+pub seen_condition : (first : ℕ) (vs : List ℕ) (f : Sub) (c : Condition)
+    → with_types (seen first vs f) c ≡ shared_condition first (length vs) (on_condition (renaming vs 0) (on_condition f c))
+seen_condition first vs f (num t) = refl
+seen_condition first vs f _ = refl

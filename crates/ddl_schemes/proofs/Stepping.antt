@@ -1,7 +1,7 @@
 -- One step of a walk.
 use Rattle.std.proofs.Common.{◌≡◌, ◌≢◌, ℕ, ◌++◌, List, [], ◌∷◌, Bool, true, false, not, map, if◌then◌else◌, ◌==◌, ne_eqb, refl, sym, ap, ◌∙◌, subst, append_assoc}
 use Rattle.ddl_types.specs.Types.{Ty, Ty.var, Ty.con, Sub, on, tys_of, Head.place}
-use Rattle.ddl_conditions.specs.Shapes.{Shapes, place_at}
+use Rattle.ddl_judging.specs.Shapes.{Shapes, place_at}
 use Rattle.ddl_schemes.specs.Order.{Seen, Walks, among, is_new, members, parts, with_head}
 use Rattle.ddl_schemes.specs.Steps.{behind, seen_after, with_place}
 

@@ -2,7 +2,7 @@
 use Rattle.std.specs.Prelude.{ℕ, zero, suc, ◌+◌, ◌==◌, List, [], ◌∷◌, map, Bool, if◌then◌else◌}
 use Rattle.ddl_types.specs.Types.{Ty, Sub, on}
 use Rattle.ddl_unify.specs.Occurs.{size}
-use Rattle.ddl_conditions.specs.Shapes.{Shape}
+use Rattle.ddl_judging.specs.Shapes.{Shape}
 
 abbrev pub sizes : List Ty → ℕ
 sizes [] = 0

@@ -1,7 +1,7 @@
 -- One step of a walk.
 use Rattle.std.specs.Prelude.{ℕ, ◌++◌, List, [], ◌∷◌, if◌then◌else◌}
 use Rattle.ddl_types.specs.Types.{Ty, Ty.var, Ty.con, Sub}
-use Rattle.ddl_conditions.specs.Shapes.{Shapes}
+use Rattle.ddl_judging.specs.Shapes.{Shapes}
 use Rattle.ddl_schemes.specs.Order.{Seen, among, members, parts, with_head, with_variable}
 
 -- the types that are walked right behind a type

@@ -5,12 +5,8 @@ mod found;
 mod laws;
 mod numbering;
 mod reading;
-mod renaming;
 mod sharing;
 mod walk;
 
 pub use laws::numbering_law;
 pub use numbering::Numbering;
-
-#[cfg(test)]
-mod tests;

@@ -6,16 +6,15 @@ ghost use Rattle.ddl_types.specs.TyView.{ty_view};
 ghost use Rattle.ddl_types.specs.CondView.{cond_view};
 ghost use Rattle.ddl_types.specs.Conditions.{on_condition};
 ghost use Rattle.ddl_unify.specs.State.{solution};
-ghost use Rattle.ddl_conditions.specs.Views.{shapes_view};
+ghost use Rattle.ddl_judging.specs.Views.{shapes_view};
 ghost use Rattle.ddl_schemes.specs.Order.{AreVariables};
-ghost use Rattle.ddl_schemes.specs.Renaming.{renaming, shared, shared_condition};
+ghost use Rattle.ddl_schemes.specs.Renaming.{renaming, seen, shared, shared_condition};
 
-use crate::renaming::rename;
 use crate::sharing::{Sharing, share};
 use crate::walk::walk;
-use ddl_base::{Bytes, NoMemory};
-use ddl_conditions::Shapes;
-use ddl_types::{Cond, Ty};
+use ddl_base::NoMemory;
+use ddl_judging::Shapes;
+use ddl_types::{Change, Cond, Leaves, Ty, changed_cond, mapped};
 use ddl_unify::Solver;
 use indexmap::IndexSet;
 use std::alloc::Global;
@@ -36,6 +35,38 @@ impl Model for Numbering {
     ghost view = { λ n. n.variables.keys };
 
     ghost invariant = { λ n. length n.variables.keys < 2 ^ 32 };
+}
+
+impl Leaves for Numbering {
+    ghost fits = { λ s v. Unit {0} };
+
+    ghost sub = { λ s. renaming s 0 };
+
+    #[tactic(auto, using(ddl_types::proofs::TyLayers::layers, crate::proofs::Numbers::numbers))]
+    fn at(&self, _alloc: Global, variable: u32) -> Result<Ty, NoMemory> {
+        match self.variables.get_index_of(&variable) {
+            Some(number) => Ok(Ty::Var(number as u32)),
+            None => Ok(Ty::Unit),
+        }
+    }
+}
+
+/// The types of the group as they are seen from other groups.
+#[derive(Clone, Copy)]
+struct Seen<'a> {
+    numbering: &'a Numbering,
+    solver: &'a Solver,
+    first: u32,
+}
+
+impl<'a> Change for Seen<'a> {
+    ghost can = { λ s t. Unit {0} };
+
+    ghost to = { λ s. seen s.first s.numbering.now (solution s.solver.now) };
+
+    fn change(&self, alloc: Global, t: &Ty) -> Result<Ty, NoMemory> {
+        self.numbering.shared(alloc, self.solver, self.first, t)
+    }
 }
 
 impl Numbering {
@@ -67,11 +98,12 @@ impl Numbering {
 
     /// A type of the group as it is solved, with its variables by their numbers. A variable that
     /// stands in no type of a declaration becomes the type of `{}`.
+    #[tactic(auto, using(ddl_types::proofs::Mapping::each_free))]
     pub fn renamed(&self, alloc: Global, solver: &Solver, of: &Ty) -> Result<Ty, NoMemory>
         ensures { IfOk result (λ r. ty_view r ≡ on (on (ty_view of.now) (solution solver.now)) (renaming self.now 0)) }
     {
         let read = solver.read(of)?;
-        rename(alloc, &self.variables, &read)
+        mapped(alloc, self, &read)
     }
 
     /// The same as it is seen from other groups, where each record and union of this group, which are
@@ -94,6 +126,7 @@ impl Numbering {
     }
 
     /// A kept condition as it is seen from other groups.
+    #[tactic(auto, using(crate::proofs::Sharings::seen_condition))]
     pub fn shared_cond(
         &self,
         alloc: Global,
@@ -103,50 +136,11 @@ impl Numbering {
     ) -> Result<Cond, NoMemory>
         ensures { IfOk result (λ c. cond_view c ≡ shared_condition first (length self.now) (on_condition (renaming self.now 0) (on_condition (solution solver.now) (cond_view cond.now)))) }
     {
-        match cond {
-            Cond::Num(t) => Ok(Cond::Num(self.shared(alloc, solver, first, t)?)),
-            Cond::Word(t) => Ok(Cond::Word(self.shared(alloc, solver, first, t)?)),
-            Cond::Lit { number, of } => Ok(Cond::Lit {
-                number: *number,
-                of: self.shared(alloc, solver, first, of)?,
-            }),
-            Cond::Key(t) => Ok(Cond::Key(self.shared(alloc, solver, first, t)?)),
-            Cond::Lossless { from, to } => Ok(Cond::Lossless {
-                from: self.shared(alloc, solver, first, from)?,
-                to: self.shared(alloc, solver, first, to)?,
-            }),
-            Cond::Cut { from, to } => Ok(Cond::Cut {
-                from: self.shared(alloc, solver, first, from)?,
-                to: self.shared(alloc, solver, first, to)?,
-            }),
-            Cond::Fit { from, to } => Ok(Cond::Fit {
-                from: self.shared(alloc, solver, first, from)?,
-                to: self.shared(alloc, solver, first, to)?,
-            }),
-            Cond::Cat {
-                left,
-                right,
-                result,
-            } => Ok(Cond::Cat {
-                left: self.shared(alloc, solver, first, left)?,
-                right: self.shared(alloc, solver, first, right)?,
-                result: self.shared(alloc, solver, first, result)?,
-            }),
-            Cond::Field { of, name, result } => Ok(Cond::Field {
-                of: self.shared(alloc, solver, first, of)?,
-                name: Bytes::of(alloc, name.get())?,
-                result: self.shared(alloc, solver, first, result)?,
-            }),
-            Cond::Tag { of, name, result } => Ok(Cond::Tag {
-                of: self.shared(alloc, solver, first, of)?,
-                name: Bytes::of(alloc, name.get())?,
-                result: self.shared(alloc, solver, first, result)?,
-            }),
-            Cond::Loop { over, key, value } => Ok(Cond::Loop {
-                over: self.shared(alloc, solver, first, over)?,
-                key: self.shared(alloc, solver, first, key)?,
-                value: self.shared(alloc, solver, first, value)?,
-            }),
-        }
+        let seen = Seen {
+            numbering: self,
+            solver,
+            first,
+        };
+        changed_cond(alloc, &seen, cond)
     }
 }

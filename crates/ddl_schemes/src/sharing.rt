@@ -3,7 +3,7 @@
 ghost use Rattle.std.specs.Prelude.{◌≡◌, IfOk, map};
 ghost use Rattle.ddl_types.specs.Types.{tys_of};
 ghost use Rattle.ddl_types.specs.TyView.{ty_view};
-ghost use Rattle.ddl_conditions.specs.Shapes.{fresh};
+ghost use Rattle.ddl_judging.specs.Shapes.{fresh};
 ghost use Rattle.ddl_schemes.specs.Renaming as renaming;
 ghost use Rattle.ddl_schemes.specs.SharedParts.{shared_parts};
 

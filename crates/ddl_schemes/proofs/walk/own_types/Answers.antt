@@ -1,7 +1,7 @@
 use Rattle.std.proofs.Common.{◌≡◌, ◌∙◌, ◌<◌, ◌≤◌, ap, sym, length, get_or, map, List, rules, arith}
 use Rattle.ddl_types.specs.declared.ty.Ty as program
 use Rattle.ddl_types.specs.TyView.{ty_view}
-use Rattle.ddl_conditions.specs.Shapes.{Shape}
+use Rattle.ddl_judging.specs.Shapes.{Shape}
 use Rattle.ddl_schemes.proofs.PlaceShapes.{place_found, place_beyond}
 use Rattle.ddl_schemes.proofs.walk.own_types.Goals as goal
 

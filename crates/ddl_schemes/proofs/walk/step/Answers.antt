@@ -3,8 +3,8 @@ use Rattle.ddl_types.specs.Types.{Ty, Ty.con, Head.place, Sub, tys_of}
 use Rattle.ddl_types.specs.TyView.{ty_view}
 use Rattle.ddl_types.proofs.TyLayers.{layers}
 use Rattle.ddl_unify.specs.State.{solution}
-use Rattle.ddl_conditions.specs.Shapes.{Shapes}
-use Rattle.ddl_conditions.specs.Views.{shapes_view}
+use Rattle.ddl_judging.specs.Shapes.{Shapes}
+use Rattle.ddl_judging.specs.Views.{shapes_view}
 use Rattle.ddl_schemes.specs.FoundView.{found_view, waiting}
 use Rattle.ddl_schemes.specs.Order.{Seen}
 use Rattle.ddl_schemes.specs.Steps.{behind}

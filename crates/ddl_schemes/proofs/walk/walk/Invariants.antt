@@ -2,7 +2,7 @@ use Rattle.std.proofs.Common.{◌+◌, map}
 use Rattle.ddl_types.specs.Types.{on}
 use Rattle.ddl_types.specs.TyView.{ty_view}
 use Rattle.ddl_unify.specs.State.{solution}
-use Rattle.ddl_conditions.specs.Views.{shapes_view}
+use Rattle.ddl_judging.specs.Views.{shapes_view}
 use Rattle.ddl_schemes.specs.FoundView.{found_view, waiting}
 use Rattle.ddl_schemes.specs.Order.{Seen, Walks, among, unseen}
 use Rattle.ddl_schemes.specs.Owed.{owed, sizes}

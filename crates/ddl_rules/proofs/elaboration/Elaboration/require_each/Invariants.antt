@@ -1,7 +1,7 @@
 use Rattle.std.proofs.Common.{◌≡◌, ◌++◌, map, take}
 use Rattle.ddl_types.specs.CondView.{cond_view}
 use Rattle.ddl_types.specs.Conditions.{on_condition}
-use Rattle.ddl_conditions.specs.Shapes.{at}
+use Rattle.ddl_judging.specs.Shapes.{at}
 use Rattle.ddl_rules.specs.Asks.{asks_for}
 use Rattle.ddl_rules.specs.Views.{asks_of, env_of, state_of}
 use Rattle.ddl_rules.proofs.elaboration.Elaboration.require_each.Given as goal
