@@ -4,7 +4,7 @@ use Rattle.ddl_tree.specs.ExprTree as ex
 use Rattle.ddl_reader.specs.Depths.{around, around_in, low, lowest, need}
 use Rattle.ddl_reader.specs.Frames.{Frame, Focus, State}
 use Rattle.ddl_reader.specs.Frames as m
-use Rattle.ddl_syntax.specs.Heights.{coming, height}
+use Rattle.ddl_states.specs.Heights.{coming, height}
 
 around_twice : (f : Frame) (n k : ℕ) → n ≤ k + k → around f n ≤ around f k + around f k
 around_twice (m.in_class_body s x) n k h = h

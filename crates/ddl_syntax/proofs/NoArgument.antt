@@ -1,16 +1,16 @@
 -- Which forms take no argument.
 use Rattle.std.proofs.Common.{◌≡◌, refl, None}
-use Rattle.ddl_syntax.specs.declared.frame.TypeFrame.{TypeFrame}
-use Rattle.ddl_syntax.specs.declared.frame.TypeFrame.TheVariants as type
-use Rattle.ddl_syntax.specs.declared.frame.ClassFrame.{ClassFrame}
-use Rattle.ddl_syntax.specs.declared.frame.ClassFrame.TheVariants as class
-use Rattle.ddl_syntax.specs.declared.frame.InnerFrame.{InnerFrame}
-use Rattle.ddl_syntax.specs.declared.frame.InnerFrame.TheVariants as inner
-use Rattle.ddl_syntax.specs.declared.frame.ListFrame.{ListFrame}
-use Rattle.ddl_syntax.specs.declared.frame.ListFrame.TheVariants as list
-use Rattle.ddl_syntax.specs.declared.frame.DeclFrame.{DeclFrame}
-use Rattle.ddl_syntax.specs.declared.frame.DeclFrame.TheVariants as decl
-use Rattle.ddl_syntax.specs.FrameView.{type_frame_view, class_frame_view, inner_frame_view, list_frame_view, decl_frame_view}
+use Rattle.ddl_states.specs.declared.frame.TypeFrame.{TypeFrame}
+use Rattle.ddl_states.specs.declared.frame.TypeFrame.TheVariants as type
+use Rattle.ddl_states.specs.declared.frame.ClassFrame.{ClassFrame}
+use Rattle.ddl_states.specs.declared.frame.ClassFrame.TheVariants as class
+use Rattle.ddl_states.specs.declared.frame.InnerFrame.{InnerFrame}
+use Rattle.ddl_states.specs.declared.frame.InnerFrame.TheVariants as inner
+use Rattle.ddl_states.specs.declared.frame.ListFrame.{ListFrame}
+use Rattle.ddl_states.specs.declared.frame.ListFrame.TheVariants as list
+use Rattle.ddl_states.specs.declared.frame.DeclFrame.{DeclFrame}
+use Rattle.ddl_states.specs.declared.frame.DeclFrame.TheVariants as decl
+use Rattle.ddl_states.specs.FrameView.{type_frame_view, class_frame_view, inner_frame_view, list_frame_view, decl_frame_view}
 use Rattle.ddl_reader.specs.Frames.{Found}
 use Rattle.ddl_reader.specs.StepExpr.{with_argument}
 

@@ -1,12 +1,12 @@
 -- Which forms have no part before their last.
 use Rattle.std.proofs.Common.{◌≡◌, refl, List, None}
-use Rattle.ddl_syntax.specs.declared.frame.TypeFrame.{TypeFrame}
-use Rattle.ddl_syntax.specs.declared.frame.TypeFrame.TheVariants as type
-use Rattle.ddl_syntax.specs.declared.frame.ClassFrame.{ClassFrame}
-use Rattle.ddl_syntax.specs.declared.frame.ClassFrame.TheVariants as class
-use Rattle.ddl_syntax.specs.declared.frame.LastFrame.{LastFrame}
-use Rattle.ddl_syntax.specs.declared.frame.LastFrame.TheVariants as last
-use Rattle.ddl_syntax.specs.FrameView.{type_frame_view, class_frame_view, last_frame_view}
+use Rattle.ddl_states.specs.declared.frame.TypeFrame.{TypeFrame}
+use Rattle.ddl_states.specs.declared.frame.TypeFrame.TheVariants as type
+use Rattle.ddl_states.specs.declared.frame.ClassFrame.{ClassFrame}
+use Rattle.ddl_states.specs.declared.frame.ClassFrame.TheVariants as class
+use Rattle.ddl_states.specs.declared.frame.LastFrame.{LastFrame}
+use Rattle.ddl_states.specs.declared.frame.LastFrame.TheVariants as last
+use Rattle.ddl_states.specs.FrameView.{type_frame_view, class_frame_view, last_frame_view}
 use Rattle.ddl_base.specs.declared.span.Span.{Span}
 use Rattle.ddl_token.specs.declared.token.Tok.{Tok}
 use Rattle.ddl_reader.specs.Frames.{Frame, Found}

@@ -1,14 +1,14 @@
 -- After which forms no type stands.
 use Rattle.std.proofs.Common.{◌≡◌, refl, List, ◌∷◌, None}
-use Rattle.ddl_syntax.specs.declared.frame.ClassFrame.{ClassFrame}
-use Rattle.ddl_syntax.specs.declared.frame.ClassFrame.TheVariants as class
-use Rattle.ddl_syntax.specs.declared.frame.LastFrame.{LastFrame}
-use Rattle.ddl_syntax.specs.declared.frame.LastFrame.TheVariants as last
-use Rattle.ddl_syntax.specs.declared.frame.InnerFrame.{InnerFrame}
-use Rattle.ddl_syntax.specs.declared.frame.InnerFrame.TheVariants as inner
-use Rattle.ddl_syntax.specs.declared.frame.ListFrame.{ListFrame}
-use Rattle.ddl_syntax.specs.declared.frame.ListFrame.TheVariants as list
-use Rattle.ddl_syntax.specs.FrameView.{class_frame_view, last_frame_view, inner_frame_view, list_frame_view}
+use Rattle.ddl_states.specs.declared.frame.ClassFrame.{ClassFrame}
+use Rattle.ddl_states.specs.declared.frame.ClassFrame.TheVariants as class
+use Rattle.ddl_states.specs.declared.frame.LastFrame.{LastFrame}
+use Rattle.ddl_states.specs.declared.frame.LastFrame.TheVariants as last
+use Rattle.ddl_states.specs.declared.frame.InnerFrame.{InnerFrame}
+use Rattle.ddl_states.specs.declared.frame.InnerFrame.TheVariants as inner
+use Rattle.ddl_states.specs.declared.frame.ListFrame.{ListFrame}
+use Rattle.ddl_states.specs.declared.frame.ListFrame.TheVariants as list
+use Rattle.ddl_states.specs.FrameView.{class_frame_view, last_frame_view, inner_frame_view, list_frame_view}
 use Rattle.ddl_base.specs.declared.span.Span.{Span}
 use Rattle.ddl_token.specs.declared.token.Tok.{Tok}
 use Rattle.ddl_reader.specs.Frames.{Frame, FoundType}

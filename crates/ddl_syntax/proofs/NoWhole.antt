@@ -1,31 +1,31 @@
 -- What ends no module.
 use Rattle.std.proofs.Common.{◌≡◌, refl, List, ◌∷◌, None}
-use Rattle.ddl_syntax.specs.declared.frame.TypeFrame.{TypeFrame}
-use Rattle.ddl_syntax.specs.declared.frame.TypeFrame.TheVariants as type
-use Rattle.ddl_syntax.specs.declared.frame.ClassFrame.{ClassFrame}
-use Rattle.ddl_syntax.specs.declared.frame.ClassFrame.TheVariants as class
-use Rattle.ddl_syntax.specs.declared.frame.LastFrame.{LastFrame}
-use Rattle.ddl_syntax.specs.declared.frame.LastFrame.TheVariants as last
-use Rattle.ddl_syntax.specs.declared.frame.InnerFrame.{InnerFrame}
-use Rattle.ddl_syntax.specs.declared.frame.InnerFrame.TheVariants as inner
-use Rattle.ddl_syntax.specs.declared.frame.ListFrame.{ListFrame}
-use Rattle.ddl_syntax.specs.declared.frame.ListFrame.TheVariants as list
-use Rattle.ddl_syntax.specs.declared.focus.TypeFocus.{TypeFocus}
-use Rattle.ddl_syntax.specs.declared.focus.TypeFocus.TheVariants as at_type
-use Rattle.ddl_syntax.specs.declared.focus.LoopFocus.{LoopFocus}
-use Rattle.ddl_syntax.specs.declared.focus.LoopFocus.TheVariants as at_loop
-use Rattle.ddl_syntax.specs.declared.focus.FieldFocus.{FieldFocus}
-use Rattle.ddl_syntax.specs.declared.focus.FieldFocus.TheVariants as at_field
-use Rattle.ddl_syntax.specs.declared.focus.ListFocus.{ListFocus}
-use Rattle.ddl_syntax.specs.declared.focus.ListFocus.TheVariants as at_list
-use Rattle.ddl_syntax.specs.declared.focus.CaseFocus.{CaseFocus}
-use Rattle.ddl_syntax.specs.declared.focus.CaseFocus.TheVariants as at_case
-use Rattle.ddl_syntax.specs.declared.focus.HeadFocus.{HeadFocus}
-use Rattle.ddl_syntax.specs.declared.focus.HeadFocus.TheVariants as at_head
-use Rattle.ddl_syntax.specs.declared.focus.BitsFocus.{BitsFocus}
-use Rattle.ddl_syntax.specs.declared.focus.BitsFocus.TheVariants as at_bits
-use Rattle.ddl_syntax.specs.FocusView.{type_focus_view, loop_focus_view, field_focus_view, list_focus_view, case_focus_view, head_focus_view, bits_focus_view}
-use Rattle.ddl_syntax.specs.FrameView.{type_frame_view, class_frame_view, last_frame_view, inner_frame_view, list_frame_view}
+use Rattle.ddl_states.specs.declared.frame.TypeFrame.{TypeFrame}
+use Rattle.ddl_states.specs.declared.frame.TypeFrame.TheVariants as type
+use Rattle.ddl_states.specs.declared.frame.ClassFrame.{ClassFrame}
+use Rattle.ddl_states.specs.declared.frame.ClassFrame.TheVariants as class
+use Rattle.ddl_states.specs.declared.frame.LastFrame.{LastFrame}
+use Rattle.ddl_states.specs.declared.frame.LastFrame.TheVariants as last
+use Rattle.ddl_states.specs.declared.frame.InnerFrame.{InnerFrame}
+use Rattle.ddl_states.specs.declared.frame.InnerFrame.TheVariants as inner
+use Rattle.ddl_states.specs.declared.frame.ListFrame.{ListFrame}
+use Rattle.ddl_states.specs.declared.frame.ListFrame.TheVariants as list
+use Rattle.ddl_states.specs.declared.focus.TypeFocus.{TypeFocus}
+use Rattle.ddl_states.specs.declared.focus.TypeFocus.TheVariants as at_type
+use Rattle.ddl_states.specs.declared.focus.LoopFocus.{LoopFocus}
+use Rattle.ddl_states.specs.declared.focus.LoopFocus.TheVariants as at_loop
+use Rattle.ddl_states.specs.declared.focus.FieldFocus.{FieldFocus}
+use Rattle.ddl_states.specs.declared.focus.FieldFocus.TheVariants as at_field
+use Rattle.ddl_states.specs.declared.focus.ListFocus.{ListFocus}
+use Rattle.ddl_states.specs.declared.focus.ListFocus.TheVariants as at_list
+use Rattle.ddl_states.specs.declared.focus.CaseFocus.{CaseFocus}
+use Rattle.ddl_states.specs.declared.focus.CaseFocus.TheVariants as at_case
+use Rattle.ddl_states.specs.declared.focus.HeadFocus.{HeadFocus}
+use Rattle.ddl_states.specs.declared.focus.HeadFocus.TheVariants as at_head
+use Rattle.ddl_states.specs.declared.focus.BitsFocus.{BitsFocus}
+use Rattle.ddl_states.specs.declared.focus.BitsFocus.TheVariants as at_bits
+use Rattle.ddl_states.specs.FocusView.{type_focus_view, loop_focus_view, field_focus_view, list_focus_view, case_focus_view, head_focus_view, bits_focus_view}
+use Rattle.ddl_states.specs.FrameView.{type_frame_view, class_frame_view, last_frame_view, inner_frame_view, list_frame_view}
 use Rattle.ddl_reader.specs.Frames.{Frame, Found, FoundClass}
 use Rattle.ddl_reader.specs.Step.{whole, finish_class, finish_body, finish}
 

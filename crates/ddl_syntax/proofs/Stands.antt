@@ -7,9 +7,9 @@ use Rattle.ddl_reader.specs.Step.{begun, reach, step_at, IsStuck}
 use Rattle.ddl_reader.proofs.Exact.{some_state}
 use Rattle.ddl_syntax.specs.Answer.{place_of}
 use Rattle.ddl_syntax.specs.Parses.{seen_of, seen_in, Advances, Completes, Leads, Parses, Stands, Within}
-use Rattle.ddl_syntax.specs.StackView.{forms}
-use Rattle.ddl_syntax.specs.declared.stack.Stack.{Stack}
-use Rattle.ddl_syntax.specs.declared.focus.Focus as code_focus
+use Rattle.ddl_states.specs.StackView.{forms}
+use Rattle.ddl_states.specs.declared.stack.Stack.{Stack}
+use Rattle.ddl_states.specs.declared.focus.Focus as code_focus
 use Rattle.ddl_syntax.specs.declared.error.SyntaxError as code_error
 use Rattle.ddl_syntax.specs.declared.error.SyntaxError.TheVariants as e
 use Rattle.ddl_tree.specs.declared.module.Module as code_module

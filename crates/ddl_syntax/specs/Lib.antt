@@ -1,10 +1,3 @@
 pub mod Answer
-pub mod Ends
 pub mod Finishes
-pub mod FocusView
-pub mod FrameView
-pub mod Gives
-pub mod Heights
-pub mod Limit
 pub mod Parses
-pub mod StackView

@@ -8,10 +8,10 @@ use Rattle.ddl_reader.specs.Frames.{Seen, State}
 use Rattle.ddl_reader.specs.Step.{begun, finish, reach, step_at, IsStuck}
 use Rattle.ddl_syntax.specs.declared.error.SyntaxError as code_error
 use Rattle.ddl_syntax.specs.declared.error.SyntaxError.TheVariants as e
-use Rattle.ddl_syntax.specs.declared.focus.Focus as code_focus
-use Rattle.ddl_syntax.specs.declared.stack.Stack.{Stack}
+use Rattle.ddl_states.specs.declared.focus.Focus as code_focus
+use Rattle.ddl_states.specs.declared.stack.Stack.{Stack}
 use Rattle.ddl_syntax.specs.Answer.{place_of}
-use Rattle.ddl_syntax.specs.Gives.{state_of}
+use Rattle.ddl_states.specs.Gives.{state_of}
 
 -- a token of this module, and its place
 abbrev pub seen_of : ℕ → Token → Seen

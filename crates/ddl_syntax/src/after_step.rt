@@ -1,18 +1,19 @@
 ghost use Rattle.std.specs.Prelude.{◌≤◌, ◌∷◌};
 ghost use Rattle.ddl_reader.specs.Depths.{around};
-ghost use Rattle.ddl_syntax.specs.Heights.{height};
-ghost use Rattle.ddl_syntax.specs.FrameView.{type_frame_view, class_frame_view, decl_frame_view, found_type_view, found_class_view};
-ghost use Rattle.ddl_syntax.specs.Gives.{Gives};
-ghost use Rattle.ddl_syntax.specs.StackView.{forms};
+ghost use Rattle.ddl_states.specs.Heights.{height};
+ghost use Rattle.ddl_states.specs.FrameView.{type_frame_view, class_frame_view, decl_frame_view, found_type_view, found_class_view};
+ghost use Rattle.ddl_states.specs.Gives.{Gives};
+ghost use Rattle.ddl_states.specs.StackView.{forms};
 ghost use Rattle.ddl_reader.specs.Step as machine;
 
-use crate::bound_step::after_paren_type;
-use crate::focus::{ClassFocus, Focus};
-use crate::frame::{ClassFrame, DeclFrame, FoundClass, FoundType, Frame, TypeFrame};
-use crate::refusal::Refusal;
-use crate::stack::Stack;
-use crate::{bits_step, class_step, decl_step, type_step};
 use ddl_base::Span;
+use ddl_read_decls::{bits_step, decl_step};
+use ddl_read_exprs::bound_step::after_paren_type;
+use ddl_read_types::{class_step, type_step};
+use ddl_states::{
+    ClassFocus, ClassFrame, DeclFrame, Focus, FoundClass, FoundType, Frame, Refusal, Stack,
+    TypeFrame,
+};
 use ddl_token::{Mark, Tok};
 use ddl_tree::ByteLit;
 use std::alloc::Global;

@@ -1,19 +1,15 @@
 ghost use Rattle.std.specs.Prelude.{◌≤◌, ◌∷◌};
-ghost use Rattle.ddl_syntax.specs.Heights.{height, coming};
+ghost use Rattle.ddl_states.specs.Heights.{height, coming};
 ghost use Rattle.ddl_syntax.specs.Finishes.{Finishes};
-ghost use Rattle.ddl_syntax.specs.FocusView.{class_focus_view, focus_view};
-ghost use Rattle.ddl_syntax.specs.FrameView.{frame_view, decl_frame_view, found_view, found_class_view};
-ghost use Rattle.ddl_syntax.specs.StackView.{forms};
+ghost use Rattle.ddl_states.specs.FocusView.{class_focus_view, focus_view};
+ghost use Rattle.ddl_states.specs.FrameView.{frame_view, decl_frame_view, found_view, found_class_view};
+ghost use Rattle.ddl_states.specs.StackView.{forms};
 ghost use Rattle.ddl_reader.specs.Step as machine;
 
-use crate::class_step::byte_done;
-use crate::close_step::close;
-use crate::closed::Closed;
-use crate::decl_step::{close_body, close_class_body};
-use crate::focus::{ClassFocus, Focus};
-use crate::frame::{DeclFrame, Found, FoundClass, Frame};
-use crate::refusal::Refusal;
-use crate::stack::Stack;
+use ddl_read_decls::decl_step::{close_body, close_class_body};
+use ddl_read_exprs::close_step::close;
+use ddl_read_types::class_step::byte_done;
+use ddl_states::{ClassFocus, Closed, DeclFrame, Focus, Found, FoundClass, Frame, Refusal, Stack};
 use ddl_tree::Module;
 use std::alloc::Global;
 

@@ -3,31 +3,32 @@ ghost use Rattle.std.specs.Option.{option_map};
 ghost use Rattle.ddl_tree.specs.View.{bound_view};
 ghost use Rattle.ddl_reader.specs.Frames as m;
 ghost use Rattle.ddl_reader.specs.Depths.{around};
-ghost use Rattle.ddl_syntax.specs.Heights.{height};
-ghost use Rattle.ddl_syntax.specs.FrameView.{frame_view, decl_frame_view, inner_frame_view, list_frame_view, last_frame_view, found_view, repeat_view};
-ghost use Rattle.ddl_syntax.specs.Gives.{Gives};
-ghost use Rattle.ddl_syntax.specs.StackView.{forms};
+ghost use Rattle.ddl_states.specs.Heights.{height};
+ghost use Rattle.ddl_states.specs.FrameView.{frame_view, decl_frame_view, inner_frame_view, list_frame_view, last_frame_view, found_view, repeat_view};
+ghost use Rattle.ddl_states.specs.Gives.{Gives};
+ghost use Rattle.ddl_states.specs.StackView.{forms};
 ghost use Rattle.ddl_reader.specs.Step as step;
 ghost use Rattle.ddl_reader.specs.StepExpr as step_expr;
 
-use crate::append::with_expr;
-use crate::bound_step::{after_between, after_high, after_paren};
-use crate::case_step::{after_alt, after_subject};
-use crate::close_step::close;
-use crate::closed::Closed;
-use crate::decl_step::close_body;
-use crate::extend_step::extend;
-use crate::field_step::{after_array, after_field, after_tagged};
-use crate::first_step::begin;
-use crate::focus::{Cases, Focus};
-use crate::frame::{DeclFrame, Found, Frame, InnerFrame, LastFrame, ListFrame, Repeat};
-use crate::level::binds;
-use crate::list_step::{after_item, after_untagged, after_with_tags};
-use crate::loop_step::{after_condition, after_for_list, after_map_list, after_start, after_then};
-use crate::module_step::begin_decl;
-use crate::refusal::Refusal;
-use crate::stack::Stack;
 use ddl_base::{NoMemory, Span};
+use ddl_read_decls::decl_step::close_body;
+use ddl_read_decls::module_step::begin_decl;
+use ddl_read_exprs::bound_step::{after_between, after_high, after_paren};
+use ddl_read_exprs::close_step::close;
+use ddl_read_exprs::extend_step::extend;
+use ddl_read_exprs::first_step::begin;
+use ddl_read_forms::case_step::{after_alt, after_subject};
+use ddl_read_forms::field_step::{after_array, after_field, after_tagged};
+use ddl_read_forms::list_step::{after_item, after_untagged, after_with_tags};
+use ddl_read_forms::loop_step::{
+    after_condition, after_for_list, after_map_list, after_start, after_then,
+};
+use ddl_states::append::with_expr;
+use ddl_states::level::binds;
+use ddl_states::{
+    Cases, Closed, DeclFrame, Focus, Found, Frame, InnerFrame, LastFrame, ListFrame, Refusal,
+    Repeat, Stack,
+};
 use ddl_token::Tok;
 use ddl_tree::Bound;
 use std::alloc::Global;

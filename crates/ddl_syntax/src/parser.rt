@@ -1,21 +1,18 @@
 ghost use Rattle.std.specs.Prelude.{◌≡◌, ◌≤◌, IfOk};
 ghost use Rattle.ddl_reader.specs.Step.{begun as begun_state};
 ghost use Rattle.ddl_syntax.specs.Answer.{Answers, place_of};
-ghost use Rattle.ddl_syntax.specs.FocusView.{focus_view};
-ghost use Rattle.ddl_syntax.specs.Gives.{state_of};
-ghost use Rattle.ddl_syntax.specs.Heights.{coming, height};
+ghost use Rattle.ddl_states.specs.FocusView.{focus_view};
+ghost use Rattle.ddl_states.specs.Gives.{state_of};
+ghost use Rattle.ddl_states.specs.Heights.{coming, height};
 ghost use Rattle.ddl_syntax.specs.Parses.{Advances, Completes, Parses, Within};
-ghost use Rattle.ddl_syntax.specs.StackView.{forms};
+ghost use Rattle.ddl_states.specs.StackView.{forms};
 
 use crate::error::SyntaxError;
 use crate::finish::finish;
-use crate::focus::Focus;
-use crate::frame::{DeclFrame, Frame};
-use crate::limit::is_too_deep;
-use crate::refusal::Refusal;
-use crate::stack::Stack;
 use crate::step::step;
 use ddl_base::{NoMemory, Span};
+use ddl_depths::limit::is_too_deep;
+use ddl_states::{DeclFrame, Focus, Frame, Refusal, Stack};
 use ddl_token::Token;
 use ddl_tree::Module;
 use std::alloc::Global;

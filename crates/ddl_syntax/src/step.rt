@@ -1,23 +1,21 @@
 ghost use Rattle.std.specs.Prelude.{◌≤◌};
-ghost use Rattle.ddl_syntax.specs.FocusView.{focus_view, type_focus_view, class_focus_view, loop_focus_view, field_focus_view, list_focus_view, case_focus_view, head_focus_view, bits_focus_view};
-ghost use Rattle.ddl_syntax.specs.Gives.{Gives};
-ghost use Rattle.ddl_syntax.specs.Heights.{coming, height};
-ghost use Rattle.ddl_syntax.specs.StackView.{forms};
+ghost use Rattle.ddl_states.specs.FocusView.{focus_view, type_focus_view, class_focus_view, loop_focus_view, field_focus_view, list_focus_view, case_focus_view, head_focus_view, bits_focus_view};
+ghost use Rattle.ddl_states.specs.Gives.{Gives};
+ghost use Rattle.ddl_states.specs.Heights.{coming, height};
+ghost use Rattle.ddl_states.specs.StackView.{forms};
 ghost use Rattle.ddl_reader.specs.Step as machine;
 
 use crate::after_step::{step_byte, step_class, step_type};
-use crate::first_step::begin;
-use crate::focus::{
-    BitsFocus, CaseFocus, ClassFocus, FieldFocus, Focus, HeadFocus, ListFocus, LoopFocus, TypeFocus,
-};
 use crate::have_step::step_have;
-use crate::refusal::Refusal;
-use crate::stack::Stack;
-use crate::{
-    bits_step, case_step, class_step, decl_step, field_step, list_step, loop_step, module_step,
-    type_step,
-};
 use ddl_base::Span;
+use ddl_read_decls::{bits_step, decl_step, module_step};
+use ddl_read_exprs::first_step::begin;
+use ddl_read_forms::{case_step, field_step, list_step, loop_step};
+use ddl_read_types::{class_step, type_step};
+use ddl_states::{
+    BitsFocus, CaseFocus, ClassFocus, FieldFocus, Focus, HeadFocus, ListFocus, LoopFocus, Refusal,
+    Stack, TypeFocus,
+};
 use ddl_token::Tok;
 use std::alloc::Global;
 

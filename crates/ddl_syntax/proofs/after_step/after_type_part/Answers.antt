@@ -1,9 +1,9 @@
 use Rattle.std.proofs.Common.{◌≤◌, ◌+◌, max, subst, arith}
 use Rattle.ddl_reader.specs.Depths.{around}
-use Rattle.ddl_syntax.specs.FrameView.{type_frame_view}
-use Rattle.ddl_syntax.specs.Heights.{height}
-use Rattle.ddl_syntax.specs.StackView.{forms}
-use Rattle.ddl_syntax.proofs.HeightsOf.{height_most}
+use Rattle.ddl_states.specs.FrameView.{type_frame_view}
+use Rattle.ddl_states.specs.Heights.{height}
+use Rattle.ddl_states.specs.StackView.{forms}
+use Rattle.ddl_states.proofs.HeightsOf.{height_most}
 use Rattle.ddl_syntax.proofs.after_step.after_type_part.Goals as goal
 
 pub after_paren_type-requires : goal.after_paren_type-requires

@@ -1,8 +1,8 @@
 use Rattle.std.proofs.Common.{◌≤◌, subst, arith}
 use Rattle.ddl_tree.specs.ClassTree as cls
-use Rattle.ddl_syntax.specs.Heights.{coming, height}
-use Rattle.ddl_syntax.specs.StackView.{forms}
-use Rattle.ddl_syntax.proofs.HeightsOf.{class_height}
+use Rattle.ddl_states.specs.Heights.{coming, height}
+use Rattle.ddl_states.specs.StackView.{forms}
+use Rattle.ddl_states.proofs.HeightsOf.{class_height}
 use Rattle.ddl_syntax.proofs.after_step.step_byte.Goals as goal
 
 pub step_class-requires : goal.step_class-requires

@@ -1,9 +1,9 @@
 use Rattle.std.proofs.Common.{◌≤◌, ◌∷◌, subst, arith}
 use Rattle.ddl_reader.specs.Depths.{around}
-use Rattle.ddl_syntax.specs.Heights.{height}
-use Rattle.ddl_syntax.specs.FrameView.{frame_view}
-use Rattle.ddl_syntax.specs.StackView.{forms}
-use Rattle.ddl_syntax.proofs.HeightsOf.{height_most}
+use Rattle.ddl_states.specs.Heights.{height}
+use Rattle.ddl_states.specs.FrameView.{frame_view}
+use Rattle.ddl_states.specs.StackView.{forms}
+use Rattle.ddl_states.proofs.HeightsOf.{height_most}
 use Rattle.ddl_syntax.proofs.finish.finish_have.Goals as goal
 
 pub close-requires : goal.close-requires

@@ -1,11 +1,11 @@
 use Rattle.std.proofs.Common.{◌≡◌, ◌≤◌, ℕ, List, ◌∷◌, sym, ap, subst, arith}
 use Rattle.ddl_reader.specs.Depths.{around}
 use Rattle.ddl_reader.specs.Frames as m
-use Rattle.ddl_syntax.specs.Ends.{Closes}
-use Rattle.ddl_syntax.specs.FrameView.{frame_view, found_view}
-use Rattle.ddl_syntax.specs.Heights.{height}
-use Rattle.ddl_syntax.specs.StackView.{forms}
-use Rattle.ddl_syntax.proofs.HeightsOf.{height_most}
+use Rattle.ddl_states.specs.Ends.{Closes}
+use Rattle.ddl_states.specs.FrameView.{frame_view, found_view}
+use Rattle.ddl_states.specs.Heights.{height}
+use Rattle.ddl_states.specs.StackView.{forms}
+use Rattle.ddl_states.proofs.HeightsOf.{height_most}
 use Rattle.ddl_syntax.proofs.have_step.step_have.Goals as goal
 
 -- what stands at the hole of the innermost form is no deeper than the outermost one

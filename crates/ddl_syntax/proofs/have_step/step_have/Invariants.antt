@@ -1,7 +1,7 @@
 use Rattle.std.proofs.Common.{◌≡◌, ◌≤◌, length}
-use Rattle.ddl_syntax.specs.FrameView.{found_view}
-use Rattle.ddl_syntax.specs.Heights.{height}
-use Rattle.ddl_syntax.specs.StackView.{forms}
+use Rattle.ddl_states.specs.FrameView.{found_view}
+use Rattle.ddl_states.specs.Heights.{height}
+use Rattle.ddl_states.specs.StackView.{forms}
 use Rattle.ddl_reader.specs.Step.{step_have}
 use Rattle.ddl_syntax.proofs.have_step.step_have.Given as goal
 

@@ -1,8 +1,8 @@
 use Rattle.std.proofs.Common.{ap, sym, ◌∙◌}
 use Rattle.ddl_reader.specs.Step.{step_at}
-use Rattle.ddl_syntax.specs.FocusView.{focus_view}
-use Rattle.ddl_syntax.specs.Gives.{state_of}
-use Rattle.ddl_syntax.specs.StackView.{forms}
+use Rattle.ddl_states.specs.FocusView.{focus_view}
+use Rattle.ddl_states.specs.Gives.{state_of}
+use Rattle.ddl_states.specs.StackView.{forms}
 use Rattle.ddl_syntax.proofs.Stands.{after_limit}
 use Rattle.ddl_syntax.proofs.parser.advance.Goals as goal
 

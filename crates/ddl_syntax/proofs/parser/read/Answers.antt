@@ -1,5 +1,5 @@
 use Rattle.std.proofs.Common.{rules, refl, arith, Err}
-use Rattle.ddl_syntax.specs.Gives.{state_of}
+use Rattle.ddl_states.specs.Gives.{state_of}
 use Rattle.ddl_syntax.specs.Parses.{Parses}
 use Rattle.ddl_syntax.proofs.HeightsTwice.{room}
 use Rattle.ddl_syntax.proofs.Stands.{ended, stands_next, stopped}

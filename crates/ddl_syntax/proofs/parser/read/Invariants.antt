@@ -1,4 +1,4 @@
-use Rattle.ddl_syntax.specs.Gives.{state_of}
+use Rattle.ddl_states.specs.Gives.{state_of}
 use Rattle.ddl_syntax.specs.Parses.{seen_in, Stands}
 use Rattle.ddl_syntax.proofs.parser.read.Given as goal
 

@@ -1,8 +1,8 @@
 use Rattle.std.proofs.Common.{◌≤◌, ◌+◌, subst, arith}
-use Rattle.ddl_syntax.specs.FocusView.{field_focus_view}
-use Rattle.ddl_syntax.specs.Heights.{coming, height}
-use Rattle.ddl_syntax.specs.StackView.{forms}
-use Rattle.ddl_syntax.proofs.HeightsOf.{height_most}
+use Rattle.ddl_states.specs.FocusView.{field_focus_view}
+use Rattle.ddl_states.specs.Heights.{coming, height}
+use Rattle.ddl_states.specs.StackView.{forms}
+use Rattle.ddl_states.proofs.HeightsOf.{height_most}
 use Rattle.ddl_syntax.proofs.step.step_in_field.Goals as goal
 
 pub shape-requires : goal.shape-requires

@@ -1,0 +1,3 @@
+pub mod NoBegin
+pub mod NoHigh
+pub mod StillOpen

@@ -1,0 +1,4 @@
+pub mod ClassAlone
+pub mod ClassEnds
+pub mod TypeEnds
+pub mod TypeStays

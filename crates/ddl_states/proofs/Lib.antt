@@ -1,0 +1,4 @@
+pub mod HeightsOf
+pub mod OneName
+pub mod Opened
+pub mod Views

@@ -1,7 +1,0 @@
-use Rattle.std.proofs.Common.{arith}
-use Rattle.std.proofs.lemmas.Grind.{common_steps}
-use Rattle.ddl_syntax.proofs.Opened.{view-push}
-use Rattle.ddl_syntax.proofs.stack.Stack.push.Goals as goal
-
-pub returns : goal.returns
-returns c = grind (arith, common_steps, view-push)
