@@ -13,8 +13,6 @@ mod literals;
 mod loops;
 mod operators;
 mod patterns;
-#[cfg(test)]
-mod tests;
 mod tokens;
 mod types;
 
