@@ -6,10 +6,10 @@ use Rattle.std.proofs.lemmas.List.{get_or-map, get_or_past, length-map, map_push
 use Rattle.std.proofs.lemmas.List.Concat.{flat_map-append}
 use Rattle.std.proofs.lemmas.List.Elements.{Contains-append_cases}
 use Rattle.std.proofs.Math.Seq.{take-suc}
-use Rattle.ddl_names.specs.declared.resolved.Bound.{Bound}
-use Rattle.ddl_names.specs.declared.resolved.Bound.TheVariants as bound
+use Rattle.ddl_kinds.specs.declared.bound.Bound.{Bound}
+use Rattle.ddl_kinds.specs.declared.bound.Bound.TheVariants as bound
 use Rattle.ddl_names.specs.declared.resolved.DeclInfo.{DeclInfo}
-use Rattle.ddl_names.specs.declared.resolved.Use.{Use}
+use Rattle.ddl_kinds.specs.declared.bound.Use.{Use}
 use Rattle.ddl_names.specs.Cutting.{cut_at}
 use Rattle.ddl_names.specs.Resolves.{firsts_of}
 use Rattle.ddl_names.proofs.Firsts.{length_cut}

@@ -1,10 +1,10 @@
 -- Which declarations each declaration of bound modules uses.
 use Rattle.std.specs.Prelude.{◌≡◌, ℕ, List, [], ◌∷◌, length, map, flat_map, nat_lt, if◌then◌else◌, Option, Some, None, refl}
 use Rattle.ddl_base.specs.declared.span.Span.{Span}
-use Rattle.ddl_names.specs.declared.resolved.Bound.{Bound}
-use Rattle.ddl_names.specs.declared.resolved.Bound.TheVariants as bound
+use Rattle.ddl_kinds.specs.declared.bound.Bound.{Bound}
+use Rattle.ddl_kinds.specs.declared.bound.Bound.TheVariants as bound
 use Rattle.ddl_names.specs.declared.resolved.DeclInfo.{DeclInfo}
-use Rattle.ddl_names.specs.declared.resolved.Use.{Use}
+use Rattle.ddl_kinds.specs.declared.bound.Use.{Use}
 use Rattle.ddl_names.specs.Cutting.{cut_at}
 use Rattle.ddl_names.specs.Resolves.{firsts_of}
 

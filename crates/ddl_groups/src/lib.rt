@@ -23,6 +23,3 @@ pub use group::{Group, Groups};
 pub use laws::{groups_law, labels_law};
 pub use need_order::ordered;
 pub use resolved_groups::groups;
-
-#[cfg(test)]
-mod tests;

@@ -8,14 +8,13 @@ use Rattle.ddl_tree.specs.declared.decl.Decl.{Decl}
 use Rattle.ddl_tree.specs.declared.module.SourceUnit.{SourceUnit}
 use Rattle.ddl_tree.specs.ModuleTree as mo
 use Rattle.ddl_tree.specs.ViewModule.{decl_view}
-use Rattle.ddl_names.specs.declared.resolved.Use.{Use}
-use Rattle.ddl_names.specs.Bindings.{Loaded, Site}
+use Rattle.ddl_kinds.specs.declared.bound.Use.{Use}
+use Rattle.ddl_uses.specs.Bindings.{Loaded, Site}
 use Rattle.ddl_names.specs.Cutting.{begins, cut_at}
-use Rattle.ddl_names.specs.Findings.{all_uses}
-use Rattle.ddl_names.specs.Found.{unit_view}
+use Rattle.ddl_kinds.specs.Findings.{all_uses}
+use Rattle.ddl_uses.specs.Walks.{unit_view, loaded}
 use Rattle.ddl_names.specs.Modules.{decl_findings, findings_from, uses_from, uses_in_each, uses_of_each}
-use Rattle.ddl_names.specs.Resolves.{loaded}
-use Rattle.ddl_names.proofs.Finding.{uses_append}
+use Rattle.ddl_kinds.proofs.Finding.{uses_append}
 use Rattle.ddl_names.proofs.Refusing.{next_dropped}
 
 -- ---- a list and its parts

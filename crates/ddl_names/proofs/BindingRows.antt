@@ -7,12 +7,12 @@ use Rattle.ddl_tree.specs.ModuleTree as mo
 use Rattle.ddl_tree.specs.TypeTree as ty
 use Rattle.ddl_tree.specs.declared.pattern.Pat.TheVariants as pat
 use Rattle.ddl_tree.specs.declared.pattern.Binder.TheVariants.{Called}
-use Rattle.ddl_names.specs.declared.resolved.Bound.{Bound}
-use Rattle.ddl_names.specs.declared.resolved.Bound.TheVariants.{Local, Decl, BuiltIn}
-use Rattle.ddl_names.specs.declared.builtin.BuiltIn.TheVariants as b
-use Rattle.ddl_names.specs.declared.error.NameError.TheVariants as e
-use Rattle.ddl_names.specs.declared.resolved.Use.{Use}
-use Rattle.ddl_names.specs.Bindings.{Loaded}
+use Rattle.ddl_kinds.specs.declared.bound.Bound.{Bound}
+use Rattle.ddl_kinds.specs.declared.bound.Bound.TheVariants.{Local, Decl, BuiltIn}
+use Rattle.ddl_kinds.specs.declared.builtin.BuiltIn.TheVariants as b
+use Rattle.ddl_kinds.specs.declared.error.NameError.TheVariants as e
+use Rattle.ddl_kinds.specs.declared.bound.Use.{Use}
+use Rattle.ddl_uses.specs.Bindings.{Loaded}
 use Rattle.ddl_names.specs.Modules.{refusal, uses_in, uses_of_each}
 use Rattle.ddl_names.proofs.RowForms.{alone, at, block, byte, def_grammar, def_main, def_value, digit, field_x, let_x, lower, main, module_of, name, nowhere, one_name, plain, pure, upper}
 

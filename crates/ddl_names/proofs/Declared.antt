@@ -11,12 +11,12 @@ use Rattle.ddl_tree.specs.declared.decl.Param.{Param}
 use Rattle.ddl_tree.specs.declared.decl.Part.{Part}
 use Rattle.ddl_tree.specs.ModuleTree as mo
 use Rattle.ddl_tree.specs.ViewModule.{con_view, decl_view, param_view, part_view}
-use Rattle.ddl_names.specs.declared.error.NameError.TheVariants as e
-use Rattle.ddl_names.specs.Bindings.{Site}
-use Rattle.ddl_names.specs.Findings.{again, demand}
-use Rattle.ddl_names.specs.Forms.{once_again, type_findings, typed_findings}
+use Rattle.ddl_kinds.specs.declared.error.NameError.TheVariants as e
+use Rattle.ddl_uses.specs.Bindings.{Site}
+use Rattle.ddl_kinds.specs.Findings.{again, demand}
+use Rattle.ddl_uses.specs.Forms.{once_again, type_findings, typed_findings}
 use Rattle.ddl_names.specs.Modules.{bits_findings, con_findings, decl_findings, may_take, param_findings, param_type, part_findings, part_names, part_type}
-use Rattle.ddl_names.specs.Scope.{Scope, local_of, param_kind, param_name, param_scope}
+use Rattle.ddl_uses.specs.Scope.{Scope, local_of, param_kind, param_name, param_scope}
 
 next : {X : Type 0} (xs : List X) (i : ℕ) (x : X) → x ≡ get_or xs i x → i < length xs → drop i xs ≡ x ∷ drop (i + 1) xs
 next xs i x e h = rw (add-one, drop-cons xs i x, ← e) refl

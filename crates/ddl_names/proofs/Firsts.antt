@@ -6,11 +6,11 @@ use Rattle.ddl_tree.specs.declared.module.SourceUnit.{SourceUnit}
 use Rattle.ddl_tree.specs.ViewModule.{decl_view}
 use Rattle.ddl_names.specs.declared.resolved.DeclInfo.{DeclInfo}
 use Rattle.ddl_names.specs.declared.resolved.Uses.{Uses}
-use Rattle.ddl_names.specs.Bindings.{Loaded, Site}
+use Rattle.ddl_uses.specs.Bindings.{Loaded, Site}
 use Rattle.ddl_names.specs.Cutting.{cut_at}
 use Rattle.ddl_names.specs.Modules.{uses_from, uses_in_each}
-use Rattle.ddl_names.specs.Found.{unit_view}
-use Rattle.ddl_names.specs.Resolves.{AreBound, AreFirst, HaveFirsts, Info, decl_count, firsts_of, info, info_view, loaded}
+use Rattle.ddl_uses.specs.Walks.{unit_view, loaded}
+use Rattle.ddl_names.specs.Resolves.{AreBound, AreFirst, HaveFirsts, Info, decl_count, firsts_of, info, info_view}
 
 -- ---- as many as before and some more
 

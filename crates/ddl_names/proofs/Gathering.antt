@@ -9,14 +9,15 @@ use Rattle.ddl_tree.specs.declared.decl.Decl.{Decl}
 use Rattle.ddl_tree.specs.declared.module.SourceUnit.{SourceUnit}
 use Rattle.ddl_tree.specs.ModuleTree as mo
 use Rattle.ddl_tree.specs.ViewModule.{decl_view}
-use Rattle.ddl_names.specs.declared.resolved.Use.{Use}
-use Rattle.ddl_names.specs.declared.error.NameError.{NameError}
-use Rattle.ddl_names.specs.Bindings.{Loaded, decl_name}
-use Rattle.ddl_names.specs.Findings.{Finding, all_uses, first_refusal, again, twice_after, twice_among}
+use Rattle.ddl_kinds.specs.declared.bound.Use.{Use}
+use Rattle.ddl_kinds.specs.declared.error.NameError.{NameError}
+use Rattle.ddl_uses.specs.Bindings.{Loaded}
+use Rattle.ddl_kinds.specs.Meanings.{decl_name}
+use Rattle.ddl_kinds.specs.Findings.{Finding, all_uses, first_refusal, again, twice_after, twice_among}
 use Rattle.ddl_names.specs.Modules.{all_findings, decl_findings, declared_twice, findings_from, one_too_many, too_many}
-use Rattle.ddl_names.specs.Found.{IsFirst, unit_view}
-use Rattle.ddl_names.specs.Resolves.{loaded}
-use Rattle.ddl_names.proofs.Finding.{first_append, uses_append}
+use Rattle.ddl_kinds.specs.Found.{IsFirst}
+use Rattle.ddl_uses.specs.Walks.{unit_view, loaded}
+use Rattle.ddl_kinds.proofs.Finding.{first_append, uses_append}
 use Rattle.ddl_names.proofs.Refusing.{behind, in_front, moved, next_dropped}
 
 -- ---- one module more

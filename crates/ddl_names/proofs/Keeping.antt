@@ -9,11 +9,11 @@ use Rattle.ddl_tree.specs.ViewModule.{decl_view}
 use Rattle.ddl_names.specs.declared.resolved.DeclInfo.{DeclInfo}
 use Rattle.ddl_names.specs.declared.resolved.Resolved.{Resolved}
 use Rattle.ddl_names.specs.declared.resolved.Uses.{Uses}
-use Rattle.ddl_names.specs.Bindings.{decl_kind, decl_name, decl_params}
+use Rattle.ddl_kinds.specs.Meanings.{decl_kind, decl_name, decl_params}
 use Rattle.ddl_names.specs.Cutting.{cut_at}
-use Rattle.ddl_names.specs.Scope.{param_kind}
-use Rattle.ddl_names.specs.Found.{unit_view}
-use Rattle.ddl_names.specs.Resolves.{AreBound, AreResolved, Info, IsResolved, firsts_of, info, info_view, infos_from, loaded}
+use Rattle.ddl_uses.specs.Scope.{param_kind}
+use Rattle.ddl_uses.specs.Walks.{unit_view, loaded}
+use Rattle.ddl_names.specs.Resolves.{AreBound, AreResolved, Info, IsResolved, firsts_of, info, info_view, infos_from}
 
 -- a declaration as it is kept, by its parts
 abbrev parts : ℕ → mo.Decl → List ℕ → Kind → List Kind → Info

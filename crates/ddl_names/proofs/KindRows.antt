@@ -10,7 +10,7 @@ use Rattle.ddl_tree.specs.TypeTree as ty
 use Rattle.ddl_tree.specs.ClassTree as cls
 use Rattle.ddl_tree.specs.ExprTree as ex
 use Rattle.ddl_tree.specs.ModuleTree as mo
-use Rattle.ddl_names.specs.declared.error.NameError.TheVariants as e
+use Rattle.ddl_kinds.specs.declared.error.NameError.TheVariants as e
 use Rattle.ddl_names.specs.Modules.{refusal}
 use Rattle.ddl_names.proofs.RowForms.{alone, at, block, byte, def_grammar, def_main, def_value, digit, exprs, field_x, lower, main, name, nowhere, plain, pure, upper}
 

@@ -13,15 +13,15 @@ use Rattle.ddl_tree.specs.declared.decl.Decl.{Decl}
 use Rattle.ddl_tree.specs.declared.module.SourceUnit.{SourceUnit}
 use Rattle.ddl_tree.specs.ModuleTree as mo
 use Rattle.ddl_tree.specs.ViewModule.{decl_view}
-use Rattle.ddl_names.specs.declared.error.NameError.{NameError}
-use Rattle.ddl_names.specs.declared.error.NameError.TheVariants as e
-use Rattle.ddl_names.specs.Bindings.{decl_name}
-use Rattle.ddl_names.specs.Findings.{Finding, first_refusal, twice_after, twice_among}
+use Rattle.ddl_kinds.specs.declared.error.NameError.{NameError}
+use Rattle.ddl_kinds.specs.declared.error.NameError.TheVariants as e
+use Rattle.ddl_kinds.specs.Meanings.{decl_name}
+use Rattle.ddl_kinds.specs.Findings.{Finding, first_refusal, twice_after, twice_among}
 use Rattle.ddl_names.specs.Modules.{declared_twice, too_many}
-use Rattle.ddl_names.specs.Held.{ArePlaced, at_text}
-use Rattle.ddl_names.specs.Found.{IsFirst, unit_view}
-use Rattle.ddl_names.specs.Resolves.{loaded}
-use Rattle.ddl_names.proofs.Finding.{first_append}
+use Rattle.ddl_uses.specs.Held.{ArePlaced, at_text}
+use Rattle.ddl_kinds.specs.Found.{IsFirst}
+use Rattle.ddl_uses.specs.Walks.{unit_view, loaded}
+use Rattle.ddl_kinds.proofs.Finding.{first_append}
 
 -- ---- refusals
 

@@ -6,7 +6,7 @@ use Rattle.ddl_tree.specs.declared.name.Name.{Name}
 use Rattle.ddl_tree.specs.declared.pattern.Names.{Names}
 use Rattle.ddl_tree.specs.ExprTree as ex
 use Rattle.ddl_tree.specs.ModuleTree as mo
-use Rattle.ddl_names.specs.Bindings.{Loaded}
+use Rattle.ddl_uses.specs.Bindings.{Loaded}
 
 abbrev pub in_module : ℕ → ℕ → ℕ → Span
 in_module m i j = record { «module» = m; from = i; to = j }

@@ -6,7 +6,7 @@ use Rattle.ddl_tree.specs.declared.pattern.Pat.TheVariants as pat
 use Rattle.ddl_tree.specs.TypeTree as ty
 use Rattle.ddl_tree.specs.ExprTree as ex
 use Rattle.ddl_tree.specs.ModuleTree as mo
-use Rattle.ddl_names.specs.declared.error.NameError.TheVariants as e
+use Rattle.ddl_kinds.specs.declared.error.NameError.TheVariants as e
 use Rattle.ddl_names.specs.Modules.{refusal}
 use Rattle.ddl_names.proofs.RowForms.{alone, at, block, byte, def_grammar, def_main, def_value, digit, field_x, let_x, lower, main, module_of, name, nowhere, pure, upper}
 

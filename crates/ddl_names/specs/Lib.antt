@@ -1,11 +1,3 @@
-pub mod Bindings
-pub mod BuiltIns
 pub mod Cutting
-pub mod Findings
-pub mod Forms
-pub mod Found
-pub mod Held
-pub mod Kinds
 pub mod Modules
 pub mod Resolves
-pub mod Scope

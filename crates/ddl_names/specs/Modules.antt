@@ -5,14 +5,15 @@ use Rattle.ddl_tree.specs.declared.kind.Kind.TheVariants as k
 use Rattle.ddl_tree.specs.declared.name.Name.{Name}
 use Rattle.ddl_tree.specs.TypeTree as ty
 use Rattle.ddl_tree.specs.ModuleTree as mo
-use Rattle.ddl_names.specs.declared.want.Want.TheVariants as w
-use Rattle.ddl_names.specs.declared.resolved.Use.{Use}
-use Rattle.ddl_names.specs.declared.error.NameError.{NameError}
-use Rattle.ddl_names.specs.declared.error.NameError.TheVariants as e
-use Rattle.ddl_names.specs.Scope.{Scope, param_kind, param_name, param_scope}
-use Rattle.ddl_names.specs.Bindings.{Loaded, Site, decl_name}
-use Rattle.ddl_names.specs.Findings.{Finding, refuses, demand, again, twice_among, first_refusal, all_uses}
-use Rattle.ddl_names.specs.Forms.{class_findings, findings, type_findings, typed_findings}
+use Rattle.ddl_kinds.specs.declared.want.Want.TheVariants as w
+use Rattle.ddl_kinds.specs.declared.bound.Use.{Use}
+use Rattle.ddl_kinds.specs.declared.error.NameError.{NameError}
+use Rattle.ddl_kinds.specs.declared.error.NameError.TheVariants as e
+use Rattle.ddl_uses.specs.Scope.{Scope, param_kind, param_name, param_scope}
+use Rattle.ddl_uses.specs.Bindings.{Loaded, Site}
+use Rattle.ddl_kinds.specs.Meanings.{decl_name}
+use Rattle.ddl_kinds.specs.Findings.{Finding, refuses, demand, again, twice_among, first_refusal, all_uses}
+use Rattle.ddl_uses.specs.Forms.{class_findings, findings, type_findings, typed_findings}
 
 -- the parameters of a value are values
 abbrev pub may_take : Kind → Kind → Bool

@@ -7,16 +7,14 @@ use Rattle.ddl_tree.specs.ViewModule.{decl_view}
 use Rattle.ddl_names.specs.declared.resolved.DeclInfo.{DeclInfo}
 use Rattle.ddl_names.specs.declared.resolved.Resolved.{Resolved}
 use Rattle.ddl_names.specs.declared.resolved.Uses.{Uses}
-use Rattle.ddl_names.specs.declared.error.NameError.{NameError}
-use Rattle.ddl_names.specs.Scope.{param_kind}
-use Rattle.ddl_names.specs.Bindings.{Loaded, decl_kind, decl_name, decl_params}
-use Rattle.ddl_names.specs.Found.{IsFirst, unit_view}
+use Rattle.ddl_kinds.specs.declared.error.NameError.{NameError}
+use Rattle.ddl_uses.specs.Scope.{param_kind}
+use Rattle.ddl_uses.specs.Bindings.{Loaded}
+use Rattle.ddl_kinds.specs.Meanings.{decl_kind, decl_name, decl_params}
+use Rattle.ddl_kinds.specs.Found.{IsFirst}
+use Rattle.ddl_uses.specs.Walks.{loaded}
 use Rattle.ddl_names.specs.Modules.{all_findings, refusal, uses_in, uses_of_each}
 use Rattle.ddl_names.specs.Cutting.{begins, cut_at}
-
--- the modules of the definitions that these are
-abbrev pub loaded : List SourceUnit → List Loaded
-loaded us = map unit_view us
 
 -- each rule is met, and these are the uses in the modules, with what binds them, where those of each declaration begin, and
 -- those in each declaration

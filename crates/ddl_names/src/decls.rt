@@ -2,21 +2,20 @@ ghost use Rattle.std.specs.Prelude.{◌≡◌, ◌++◌, OnOk, [], ◌∷◌, le
 ghost use Rattle.ddl_tree.specs.View.{typed_view, view};
 ghost use Rattle.ddl_tree.specs.ViewModule.{decl_view, param_view};
 ghost use Rattle.ddl_names.specs.Cutting.{begins};
-ghost use Rattle.ddl_names.specs.Forms.{findings, typed_findings};
-ghost use Rattle.ddl_names.specs.Found.{Finds, IsOuter, site_view};
+ghost use Rattle.ddl_uses.specs.Forms.{findings, typed_findings};
+ghost use Rattle.ddl_kinds.specs.Found.{Finds};
+ghost use Rattle.ddl_uses.specs.Walks.{IsOuter, site_view};
 ghost use Rattle.ddl_names.specs.Modules.{decl_findings, param_findings, uses_in_each};
-ghost use Rattle.ddl_names.specs.Scope.{param_scope};
+ghost use Rattle.ddl_uses.specs.Scope.{param_scope};
 
 use crate::layouts::{take_bits, take_cons};
 use crate::params::{scope_of, take_params};
-use crate::parts::{take_class, take_typed};
-use crate::scope::Scope;
-use crate::walk::Walk;
-use crate::{Kind, NameError, Want};
-use ddl_tree::{Decl, Expr, Param, TypeExpr};
+use ddl_kinds::{NameError, Want};
+use ddl_tree::{Decl, Expr, Kind, Param, TypeExpr};
+use ddl_uses::{Scope, Walk, take_class, take_typed};
 
 // What is found in a declaration of this kind with these parameters, this type and a body of which this is wanted.
-#[tactic(auto, using(crate::proofs::Finding::finding))]
+#[tactic(auto, using(ddl_kinds::proofs::Finding::finding))]
 fn take_definition<'a>(
     walk: &mut Walk<'a>,
     kind: Kind,
@@ -44,7 +43,7 @@ fn take_definition<'a>(
 }
 
 // What is found in a declaration.
-#[tactic(auto, using(crate::proofs::Finding::finding))]
+#[tactic(auto, using(ddl_kinds::proofs::Finding::finding))]
 fn take_decl<'a>(walk: &mut Walk<'a>, decl: &'a Decl) -> Result<(), NameError>
     requires { IsOuter walk.old.outer }
     ensures found { Finds (decl_findings (site_view walk.old.outer) (decl_view decl.now)) walk.old.uses.items walk.new.uses.items result }
@@ -86,7 +85,7 @@ fn take_decl<'a>(walk: &mut Walk<'a>, decl: &'a Decl) -> Result<(), NameError>
 }
 
 // What is found in the next declaration, of which the place of the first use is noted.
-#[tactic(auto, using(crate::proofs::Finding::finding))]
+#[tactic(auto, using(ddl_kinds::proofs::Finding::finding))]
 fn take_next<'a>(
     walk: &mut Walk<'a>,
     firsts: &mut Vec<usize>,
@@ -104,7 +103,7 @@ fn take_next<'a>(
 }
 
 /// What is found in the declarations of a module whose names mean this: the uses are added, and the place of the first one of each declaration; or the first refusal is told.
-#[tactic(auto, using(crate::proofs::Finding::finding, crate::proofs::Declared::declared))]
+#[tactic(auto, using(ddl_kinds::proofs::Finding::finding, crate::proofs::Declared::declared))]
 pub(crate) fn take_decls<'a>(
     walk: &mut Walk<'a>,
     firsts: &mut Vec<usize>,

@@ -1,15 +1,15 @@
 ghost use Rattle.std.specs.Prelude.{[], ◌++◌, ◌+◌, ◌<◌, ◌≡◌, ◌≤◌, ◌∷◌, IfErr, IfOk, OnOk, length, map};
 ghost use Rattle.ddl_tree.specs.ViewModule.{decl_view, param_view};
-ghost use Rattle.ddl_names.specs.Found.{unit_view};
+ghost use Rattle.ddl_uses.specs.Walks.{unit_view};
 ghost use Rattle.ddl_names.specs.Resolves.{AreFirst, AreResolved, IsUnbound, info, info_view};
-ghost use Rattle.ddl_names.specs.Scope.{param_kind};
+ghost use Rattle.ddl_uses.specs.Scope.{param_kind};
 
-use crate::declaration::{kind_of, name_of, params_of};
 use crate::params::kind_of as param_kind;
 use crate::resolving::bindings;
-use crate::{DeclInfo, Kind, NameError, Resolved};
+use crate::{DeclInfo, Resolved};
 use ddl_base::{Bytes, NoMemory};
-use ddl_tree::{Decl, Module, Param, SourceUnit};
+use ddl_kinds::{NameError, kind_of, name_of, params_of};
+use ddl_tree::{Decl, Kind, Module, Param, SourceUnit};
 use std::alloc::Global;
 
 // What parameters stand for.

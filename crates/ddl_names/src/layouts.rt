@@ -1,21 +1,19 @@
 ghost use Rattle.std.specs.Prelude.{◌≡◌, ◌++◌, OnOk, [], ◌∷◌, map};
 ghost use Rattle.ddl_tree.specs.ViewModule.{bits_view, con_view, part_view};
-ghost use Rattle.ddl_names.specs.Findings.{again};
-ghost use Rattle.ddl_names.specs.Forms.{once_again, typed_findings};
-ghost use Rattle.ddl_names.specs.Found.{Finds, IsOuter, site_view};
-ghost use Rattle.ddl_names.specs.Held.{IsScope, IsSeen, scope_view, seen_view};
+ghost use Rattle.ddl_kinds.specs.Findings.{again};
+ghost use Rattle.ddl_uses.specs.Forms.{once_again, typed_findings};
+ghost use Rattle.ddl_kinds.specs.Found.{Finds};
+ghost use Rattle.ddl_uses.specs.Walks.{IsOuter, site_view};
+ghost use Rattle.ddl_uses.specs.Held.{IsScope, IsSeen, scope_view, seen_view};
 ghost use Rattle.ddl_names.specs.Modules.{bits_findings, con_findings, part_findings, part_names, part_type};
 
-use crate::outer::Outer;
-use crate::parts::take_type;
-use crate::scope::Scope;
-use crate::seen::Seen;
-use crate::{NameError, Use};
+use ddl_kinds::{NameError, Use};
 use ddl_tree::{Bits, Con, Part};
+use ddl_uses::{Outer, Scope, Seen, take_type};
 use std::alloc::Global;
 
 // The name of a part, or the refusal where it stood before.
-#[tactic(auto, using(crate::proofs::Finding::finding))]
+#[tactic(auto, using(ddl_kinds::proofs::Finding::finding))]
 fn once_named<'a>(seen: &mut Seen<'a>, uses: &[Use], part: &'a Part) -> Result<(), NameError>
     requires { IsSeen seen.old }
     ensures found { Finds (once_again (seen_view seen.old) (part_names (part_view part.now))) uses.now uses.now result }
@@ -32,7 +30,7 @@ fn once_named<'a>(seen: &mut Seen<'a>, uses: &[Use], part: &'a Part) -> Result<(
 }
 
 // The names in the type of a part.
-#[tactic(auto, using(crate::proofs::Finding::finding))]
+#[tactic(auto, using(ddl_kinds::proofs::Finding::finding))]
 fn take_part_type<'a>(
     outer: &Outer<'a>,
     scope: &Scope<'a>,
@@ -53,7 +51,7 @@ fn take_part_type<'a>(
 }
 
 // What is found in the parts of a layout.
-#[tactic(auto, using(crate::proofs::Finding::finding, crate::proofs::Declared::declared))]
+#[tactic(auto, using(ddl_kinds::proofs::Finding::finding, crate::proofs::Declared::declared))]
 fn take_parts<'a>(
     alloc: Global,
     outer: &Outer<'a>,
@@ -73,7 +71,7 @@ fn take_parts<'a>(
 }
 
 /// What is found in a layout.
-#[tactic(auto, using(crate::proofs::Finding::finding))]
+#[tactic(auto, using(ddl_kinds::proofs::Finding::finding))]
 pub(crate) fn take_bits<'a>(
     alloc: Global,
     outer: &Outer<'a>,
@@ -93,7 +91,7 @@ pub(crate) fn take_bits<'a>(
 }
 
 // What is found in a constructor, after those that were seen.
-#[tactic(auto, using(crate::proofs::Finding::finding))]
+#[tactic(auto, using(ddl_kinds::proofs::Finding::finding))]
 fn take_con<'a>(
     alloc: Global,
     outer: &Outer<'a>,
@@ -113,7 +111,7 @@ fn take_con<'a>(
 }
 
 /// What is found in constructors.
-#[tactic(auto, using(crate::proofs::Finding::finding, crate::proofs::Declared::declared))]
+#[tactic(auto, using(ddl_kinds::proofs::Finding::finding, crate::proofs::Declared::declared))]
 pub(crate) fn take_cons<'a>(
     alloc: Global,
     outer: &Outer<'a>,

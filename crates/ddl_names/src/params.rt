@@ -1,20 +1,18 @@
 ghost use Rattle.std.specs.Prelude.{◌≡◌, ◌++◌, IfOk, OnOk, [], ◌∷◌, map};
 ghost use Rattle.ddl_tree.specs.ViewModule.{param_view};
-ghost use Rattle.ddl_names.specs.declared.error.NameError.TheVariants.{WrongKind};
-ghost use Rattle.ddl_names.specs.Findings.{again, demand};
-ghost use Rattle.ddl_names.specs.Forms.{typed_findings};
-ghost use Rattle.ddl_names.specs.Found.{Finds, IsOuter, site_view};
-ghost use Rattle.ddl_names.specs.Held.{IsScope, IsSeen, scope_view, seen_view};
+ghost use Rattle.ddl_kinds.specs.declared.error.NameError.TheVariants.{WrongKind};
+ghost use Rattle.ddl_kinds.specs.Findings.{again, demand};
+ghost use Rattle.ddl_uses.specs.Forms.{typed_findings};
+ghost use Rattle.ddl_kinds.specs.Found.{Finds};
+ghost use Rattle.ddl_uses.specs.Walks.{IsOuter, site_view};
+ghost use Rattle.ddl_uses.specs.Held.{IsScope, IsSeen, scope_view, seen_view};
 ghost use Rattle.ddl_names.specs.Modules.{may_take, param_findings, param_type};
-ghost use Rattle.ddl_names.specs.Scope.{local_of, param_kind, param_name, param_scope};
+ghost use Rattle.ddl_uses.specs.Scope.{local_of, param_kind, param_name, param_scope};
 
-use crate::outer::Outer;
-use crate::parts::take_type;
-use crate::scope::Scope;
-use crate::seen::Seen;
-use crate::{Kind, NameError, Use};
 use ddl_base::NoMemory;
-use ddl_tree::{Name, Param};
+use ddl_kinds::{NameError, Use};
+use ddl_tree::{Kind, Name, Param};
+use ddl_uses::{Outer, Scope, Seen, take_type};
 use std::alloc::Global;
 
 fn name_of(param: &Param) -> &Name
@@ -69,7 +67,7 @@ pub(crate) fn scope_of<'a>(alloc: Global, params: &'a [Param]) -> Result<Scope<'
 }
 
 // A parameter that the declaration may have, or the refusal of its kind.
-#[tactic(auto, using(crate::proofs::Finding::finding))]
+#[tactic(auto, using(ddl_kinds::proofs::Finding::finding))]
 fn allowed(uses: &[Use], kind: Kind, param: &Param) -> Result<(), NameError>
     ensures { Finds (demand (may_take kind (param_kind (param_view param.now))) (WrongKind (param_name (param_view param.now)).span)) uses.now uses.now result }
 {
@@ -81,7 +79,7 @@ fn allowed(uses: &[Use], kind: Kind, param: &Param) -> Result<(), NameError>
 }
 
 // The names in the type of a parameter.
-#[tactic(auto, using(crate::proofs::Finding::finding))]
+#[tactic(auto, using(ddl_kinds::proofs::Finding::finding))]
 fn take_param_type<'a>(
     outer: &Outer<'a>,
     scope: &Scope<'a>,
@@ -102,7 +100,7 @@ fn take_param_type<'a>(
 }
 
 // What is found in a parameter, after those that were seen.
-#[tactic(auto, using(crate::proofs::Finding::finding))]
+#[tactic(auto, using(ddl_kinds::proofs::Finding::finding))]
 fn take_param<'a>(
     outer: &Outer<'a>,
     scope: &Scope<'a>,
@@ -126,7 +124,7 @@ fn take_param<'a>(
 }
 
 /// What is found in the parameters of a declaration of this kind.
-#[tactic(auto, using(crate::proofs::Finding::finding, crate::proofs::Declared::declared))]
+#[tactic(auto, using(ddl_kinds::proofs::Finding::finding, crate::proofs::Declared::declared))]
 pub(crate) fn take_params<'a>(
     alloc: Global,
     outer: &Outer<'a>,

@@ -1,25 +1,8 @@
-use crate::BuiltIn;
 use crate::kept_decls::{keep_unit, next_place};
-use ddl_base::{Bytes, NoMemory, Span};
+use ddl_base::{Bytes, NoMemory};
+use ddl_kinds::Use;
 use ddl_tree::{Decl, Kind, SourceUnit};
 use std::alloc::Global;
-
-/// What a use of a name is bound to.
-#[derive(Clone, Copy, Debug, PartialEq, Eq)]
-pub enum Bound {
-    /// The name of a parameter, a field, a `let`, a `for`, a `map` or a pattern, which stands there.
-    Local(Span),
-    /// The declaration of this number.
-    Decl(u32),
-    BuiltIn(BuiltIn),
-}
-
-/// A name that is used, and what it is bound to.
-#[derive(Clone, Copy, Debug, PartialEq, Eq)]
-pub struct Use {
-    pub span: Span,
-    pub bound: Bound,
-}
 
 /// The uses of names in modules, and where those in each declaration begin.
 #[derive(Drop)]

@@ -1,20 +1,19 @@
 ghost use Rattle.std.specs.Prelude.{◌≡◌, ◌++◌, IfErr, IfOk, None, OnOk, flat_map, length, map};
 ghost use Rattle.ddl_tree.specs.ViewModule.{decl_view};
 ghost use Rattle.ddl_names.specs.Cutting.{begins};
-ghost use Rattle.ddl_names.specs.Findings.{all_uses, first_refusal};
-ghost use Rattle.ddl_names.specs.Found.{AreNames, Finds, IsFirst, IsOuter, site_view};
+ghost use Rattle.ddl_kinds.specs.Findings.{all_uses, first_refusal};
+ghost use Rattle.ddl_uses.specs.Walks.{AreNames, IsOuter, site_view, loaded};
+ghost use Rattle.ddl_kinds.specs.Found.{Finds, IsFirst};
 ghost use Rattle.ddl_names.specs.Modules.{decl_findings, findings_from, uses_in_each, uses_of_each};
-ghost use Rattle.ddl_names.specs.Resolves.{AreBound, IsUnbound, loaded};
+ghost use Rattle.ddl_names.specs.Resolves.{AreBound, IsUnbound};
 
+use crate::Uses;
 use crate::decls::take_decls;
-use crate::module_names::{ModuleNames, names_of};
-use crate::outer::Outer;
-use crate::scope::Scope;
 use crate::twice::{few_enough, names_differ};
-use crate::walk::Walk;
-use crate::{NameError, Uses};
 use ddl_base::NoMemory;
+use ddl_kinds::NameError;
 use ddl_tree::{Decl, SourceUnit};
+use ddl_uses::{ModuleNames, Outer, Scope, Walk, names_of};
 use std::alloc::Global;
 
 // The place of a module in the list, of which there are fewer than 2^32.

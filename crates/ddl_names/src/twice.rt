@@ -1,16 +1,15 @@
 ghost use Rattle.std.specs.Prelude.{[], ◌≡◌, drop, flat_map, map, option_map, slice_get};
 ghost use Rattle.ddl_tree.specs.ViewModule.{decl_view};
-ghost use Rattle.ddl_names.specs.Bindings.{decl_name};
-ghost use Rattle.ddl_names.specs.Findings.{twice_among};
-ghost use Rattle.ddl_names.specs.Found.{Refuses};
+ghost use Rattle.ddl_kinds.specs.Meanings.{decl_name};
+ghost use Rattle.ddl_kinds.specs.Findings.{twice_among};
+ghost use Rattle.ddl_kinds.specs.Found.{Refuses};
 ghost use Rattle.ddl_names.specs.Modules.{declared_twice, one_too_many, too_many};
-ghost use Rattle.ddl_names.specs.Resolves.{loaded};
+ghost use Rattle.ddl_uses.specs.Walks.{loaded};
 
-use crate::NameError;
-use crate::declaration::name_of;
-use crate::places::before;
 use ddl_base::Span;
+use ddl_kinds::{NameError, name_of};
 use ddl_tree::{Decl, SourceUnit};
+use ddl_uses::before;
 use std::alloc::Global;
 use std::collections::HashMap;
 

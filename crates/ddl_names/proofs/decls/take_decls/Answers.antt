@@ -1,13 +1,14 @@
 use Rattle.std.proofs.Common.{◌≡◌, ◌+◌, List, ◌++◌, drop, map, ap, subst, sym, ◌∙◌, rules}
 use Rattle.std.specs.Prelude.{flat_map}
 use Rattle.ddl_tree.specs.ViewModule.{decl_view}
-use Rattle.ddl_names.specs.declared.outer.Outer.{Outer}
-use Rattle.ddl_names.specs.Findings.{Finding, all_uses, first_refusal}
-use Rattle.ddl_names.specs.Found.{IsFirst, IsOuter, site_view}
+use Rattle.ddl_uses.specs.declared.outer.Outer.{Outer}
+use Rattle.ddl_kinds.specs.Findings.{Finding, all_uses, first_refusal}
+use Rattle.ddl_kinds.specs.Found.{IsFirst}
+use Rattle.ddl_uses.specs.Walks.{IsOuter, site_view}
 use Rattle.ddl_names.specs.Modules.{decl_findings}
 use Rattle.ddl_names.proofs.Begins.{first_noted}
 use Rattle.ddl_names.proofs.Declared.{next_decl}
-use Rattle.ddl_names.proofs.Done.{done, refused}
+use Rattle.ddl_uses.proofs.Done.{done, refused}
 use Rattle.ddl_names.proofs.decls.take_decls.Goals as goal
 
 pub returns-in_err-take_next-clause-found : goal.returns-in_err-take_next-clause-found

@@ -2,9 +2,9 @@ use Rattle.std.proofs.Common.{◌≡◌, ◌++◌, drop, length, map}
 use Rattle.std.specs.Prelude.{flat_map}
 use Rattle.ddl_tree.specs.ViewModule.{decl_view}
 use Rattle.ddl_names.specs.Cutting.{begins}
-use Rattle.ddl_names.specs.Found.{IsOuter, site_view}
+use Rattle.ddl_uses.specs.Walks.{IsOuter, site_view}
 use Rattle.ddl_names.specs.Modules.{decl_findings, uses_in_each}
-use Rattle.ddl_names.proofs.Finding.{Leaves}
+use Rattle.ddl_kinds.proofs.Finding.{Leaves}
 use Rattle.ddl_names.proofs.decls.take_decls.Given as goal
 
 abbrev pub invariant-loop-decl : goal.invariant-loop-decl

@@ -1,6 +1,6 @@
 use Rattle.std.proofs.Common.{◌≡◌, map, take}
 use Rattle.ddl_tree.specs.ViewModule.{param_view}
-use Rattle.ddl_names.specs.Scope.{param_kind}
+use Rattle.ddl_uses.specs.Scope.{param_kind}
 use Rattle.ddl_names.proofs.kept_decls.param_kinds.Given as goal
 
 abbrev pub invariant-loop-param : goal.invariant-loop-param

@@ -1,13 +1,14 @@
 use Rattle.std.proofs.Common.{◌+◌, List, [], ◌∷◌, ◌++◌, drop, map, subst, sym, rules}
 use Rattle.ddl_tree.specs.declared.name.Name.{Name}
 use Rattle.ddl_tree.specs.ViewModule.{con_view}
-use Rattle.ddl_names.specs.Findings.{Finding, again}
-use Rattle.ddl_names.specs.Found.{IsFirst, site_view}
-use Rattle.ddl_names.specs.Held.{seen_view}
+use Rattle.ddl_kinds.specs.Findings.{Finding, again}
+use Rattle.ddl_kinds.specs.Found.{IsFirst}
+use Rattle.ddl_uses.specs.Walks.{site_view}
+use Rattle.ddl_uses.specs.Held.{seen_view}
 use Rattle.ddl_names.specs.Modules.{bits_findings, con_findings}
 use Rattle.ddl_names.proofs.Declared.{next_con}
-use Rattle.ddl_names.proofs.Done.{done, refused}
-use Rattle.ddl_names.proofs.Finding.{Leaves}
+use Rattle.ddl_uses.proofs.Done.{done, refused}
+use Rattle.ddl_kinds.proofs.Finding.{Leaves}
 use Rattle.ddl_names.proofs.layouts.take_cons.Goals as goal
 
 pub returns-in_err-take_con : goal.returns-in_err-take_con

@@ -1,9 +1,9 @@
 use Rattle.std.proofs.Common.{[], drop, map}
 use Rattle.ddl_tree.specs.ViewModule.{con_view}
-use Rattle.ddl_names.specs.Found.{site_view}
-use Rattle.ddl_names.specs.Held.{IsSeen, seen_view}
+use Rattle.ddl_uses.specs.Walks.{site_view}
+use Rattle.ddl_uses.specs.Held.{IsSeen, seen_view}
 use Rattle.ddl_names.specs.Modules.{con_findings}
-use Rattle.ddl_names.proofs.Finding.{Leaves}
+use Rattle.ddl_kinds.proofs.Finding.{Leaves}
 use Rattle.ddl_names.proofs.layouts.take_cons.Given as goal
 
 abbrev pub invariant-loop-con : goal.invariant-loop-con

@@ -2,15 +2,16 @@ use Rattle.std.proofs.Common.{◌≡◌, ◌+◌, List, [], ◌++◌, drop, map,
 use Rattle.std.proofs.lemmas.List.{append_assoc}
 use Rattle.ddl_tree.specs.declared.name.Name.{Name}
 use Rattle.ddl_tree.specs.ViewModule.{part_view}
-use Rattle.ddl_names.specs.Findings.{Finding}
-use Rattle.ddl_names.specs.Forms.{once_again, typed_findings}
-use Rattle.ddl_names.specs.Found.{IsFirst, site_view}
-use Rattle.ddl_names.specs.Held.{scope_view, seen_view}
+use Rattle.ddl_kinds.specs.Findings.{Finding}
+use Rattle.ddl_uses.specs.Forms.{once_again, typed_findings}
+use Rattle.ddl_kinds.specs.Found.{IsFirst}
+use Rattle.ddl_uses.specs.Walks.{site_view}
+use Rattle.ddl_uses.specs.Held.{scope_view, seen_view}
 use Rattle.ddl_names.specs.Modules.{part_findings, part_names, part_type}
-use Rattle.ddl_names.specs.Scope.{Scope}
+use Rattle.ddl_uses.specs.Scope.{Scope}
 use Rattle.ddl_names.proofs.Declared.{next_part}
-use Rattle.ddl_names.proofs.Done.{done, refused}
-use Rattle.ddl_names.proofs.Finding.{Leaves}
+use Rattle.ddl_uses.proofs.Done.{done, refused}
+use Rattle.ddl_kinds.proofs.Finding.{Leaves}
 use Rattle.ddl_names.proofs.layouts.take_parts.Goals as goal
 
 pub returns-in_err-take_part_type : goal.returns-in_err-take_part_type

@@ -1,7 +1,7 @@
 use Rattle.std.proofs.Common.{◌≡◌, map, take}
 use Rattle.ddl_tree.specs.ViewModule.{param_view}
-use Rattle.ddl_names.specs.Held.{IsScope, scope_view}
-use Rattle.ddl_names.specs.Scope.{param_scope}
+use Rattle.ddl_uses.specs.Held.{IsScope, scope_view}
+use Rattle.ddl_uses.specs.Scope.{param_scope}
 use Rattle.ddl_names.proofs.params.scope_of.Given as goal
 
 abbrev pub invariant-loop-param : goal.invariant-loop-param

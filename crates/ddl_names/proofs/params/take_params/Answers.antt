@@ -1,16 +1,17 @@
 use Rattle.std.proofs.Common.{◌+◌, List, [], ◌∷◌, ◌++◌, drop, map, subst, sym, rules}
 use Rattle.ddl_tree.specs.declared.name.Name.{Name}
 use Rattle.ddl_tree.specs.ViewModule.{param_view}
-use Rattle.ddl_names.specs.declared.error.NameError.TheVariants.{WrongKind}
-use Rattle.ddl_names.specs.Findings.{Finding, again, demand}
-use Rattle.ddl_names.specs.Forms.{typed_findings}
-use Rattle.ddl_names.specs.Found.{IsFirst, site_view}
-use Rattle.ddl_names.specs.Held.{scope_view, seen_view}
+use Rattle.ddl_kinds.specs.declared.error.NameError.TheVariants.{WrongKind}
+use Rattle.ddl_kinds.specs.Findings.{Finding, again, demand}
+use Rattle.ddl_uses.specs.Forms.{typed_findings}
+use Rattle.ddl_kinds.specs.Found.{IsFirst}
+use Rattle.ddl_uses.specs.Walks.{site_view}
+use Rattle.ddl_uses.specs.Held.{scope_view, seen_view}
 use Rattle.ddl_names.specs.Modules.{may_take, param_findings, param_type}
-use Rattle.ddl_names.specs.Scope.{param_kind, param_name}
+use Rattle.ddl_uses.specs.Scope.{param_kind, param_name}
 use Rattle.ddl_names.proofs.Declared.{next_param}
-use Rattle.ddl_names.proofs.Done.{done, refused}
-use Rattle.ddl_names.proofs.Finding.{Leaves}
+use Rattle.ddl_uses.proofs.Done.{done, refused}
+use Rattle.ddl_kinds.proofs.Finding.{Leaves}
 use Rattle.ddl_names.proofs.params.take_params.Goals as goal
 
 pub returns-in_err-take_param : goal.returns-in_err-take_param

@@ -1,9 +1,9 @@
 use Rattle.std.proofs.Common.{[], drop, map}
 use Rattle.ddl_tree.specs.ViewModule.{param_view}
-use Rattle.ddl_names.specs.Found.{site_view}
-use Rattle.ddl_names.specs.Held.{IsSeen, scope_view, seen_view}
+use Rattle.ddl_uses.specs.Walks.{site_view}
+use Rattle.ddl_uses.specs.Held.{IsSeen, scope_view, seen_view}
 use Rattle.ddl_names.specs.Modules.{param_findings}
-use Rattle.ddl_names.proofs.Finding.{Leaves}
+use Rattle.ddl_kinds.proofs.Finding.{Leaves}
 use Rattle.ddl_names.proofs.params.take_params.Given as goal
 
 abbrev pub invariant-loop-param : goal.invariant-loop-param

@@ -1,10 +1,10 @@
 -- One module more.
 use Rattle.std.proofs.Common.{ap, sym, subst, ◌∙◌, arith, rules}
-use Rattle.ddl_names.specs.declared.outer.Outer.{Outer}
-use Rattle.ddl_names.specs.Found.{AreNames, IsFirst}
-use Rattle.ddl_names.specs.Findings.{all_uses}
+use Rattle.ddl_uses.specs.declared.outer.Outer.{Outer}
+use Rattle.ddl_uses.specs.Walks.{AreNames, loaded}
+use Rattle.ddl_kinds.specs.Found.{IsFirst}
+use Rattle.ddl_kinds.specs.Findings.{all_uses}
 use Rattle.ddl_names.specs.Modules.{findings_from}
-use Rattle.ddl_names.specs.Resolves.{loaded}
 use Rattle.ddl_names.proofs.Begins.{module_noted}
 use Rattle.ddl_names.proofs.Gathering.{module_adds, module_passes, module_refuses}
 use Rattle.ddl_names.proofs.resolving.take_modules.Goals as goal

@@ -1,9 +1,8 @@
 use Rattle.std.proofs.Common.{◌≡◌, ◌++◌, drop, length}
 use Rattle.ddl_names.specs.Cutting.{begins}
-use Rattle.ddl_names.specs.Findings.{all_uses, first_refusal}
-use Rattle.ddl_names.specs.Found.{AreNames}
+use Rattle.ddl_kinds.specs.Findings.{all_uses, first_refusal}
+use Rattle.ddl_uses.specs.Walks.{AreNames, loaded}
 use Rattle.ddl_names.specs.Modules.{findings_from, uses_from, uses_of_each}
-use Rattle.ddl_names.specs.Resolves.{loaded}
 use Rattle.ddl_names.proofs.resolving.take_modules.Given as goal
 
 abbrev pub invariant-loop-place : goal.invariant-loop-place

@@ -1,7 +1,7 @@
 use Rattle.std.proofs.Common.{◌≡◌, drop}
 use Rattle.std.specs.Prelude.{flat_map, option_map, slice_get}
-use Rattle.ddl_names.specs.Bindings.{decl_name}
-use Rattle.ddl_names.specs.Resolves.{loaded}
+use Rattle.ddl_kinds.specs.Meanings.{decl_name}
+use Rattle.ddl_uses.specs.Walks.{loaded}
 use Rattle.ddl_names.proofs.twice.decl_at.Given as goal
 
 abbrev pub invariant-loop-unit : goal.invariant-loop-unit

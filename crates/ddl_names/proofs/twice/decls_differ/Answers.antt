@@ -1,8 +1,8 @@
 -- One more declaration, whose name is new.
 use Rattle.std.proofs.Common.{◌≡◌, None, ap, sym, ◌∙◌, arith}
 use Rattle.ddl_tree.specs.ViewModule.{decl_view}
-use Rattle.ddl_names.specs.Bindings.{decl_name}
-use Rattle.ddl_names.specs.Held.{at_text}
+use Rattle.ddl_kinds.specs.Meanings.{decl_name}
+use Rattle.ddl_uses.specs.Held.{at_text}
 use Rattle.ddl_names.proofs.Refusing.{differs, place_more}
 use Rattle.ddl_names.proofs.twice.decls_differ.Goals as goal
 

@@ -1,8 +1,8 @@
 use Rattle.std.proofs.Common.{◌≡◌, [], map, take, drop}
 use Rattle.ddl_tree.specs.ViewModule.{decl_view}
-use Rattle.ddl_names.specs.Bindings.{decl_name}
-use Rattle.ddl_names.specs.Findings.{first_refusal, twice_among}
-use Rattle.ddl_names.specs.Held.{ArePlaced}
+use Rattle.ddl_kinds.specs.Meanings.{decl_name}
+use Rattle.ddl_kinds.specs.Findings.{first_refusal, twice_among}
+use Rattle.ddl_uses.specs.Held.{ArePlaced}
 use Rattle.ddl_names.proofs.twice.decls_differ.Given as goal
 
 abbrev pub invariant-loop-decl : goal.invariant-loop-decl

@@ -1,8 +1,8 @@
 use Rattle.std.proofs.Common.{◌≡◌, drop}
 use Rattle.std.specs.Prelude.{flat_map}
-use Rattle.ddl_names.specs.Findings.{first_refusal}
+use Rattle.ddl_kinds.specs.Findings.{first_refusal}
 use Rattle.ddl_names.specs.Modules.{declared_twice}
-use Rattle.ddl_names.specs.Resolves.{loaded}
+use Rattle.ddl_uses.specs.Walks.{loaded}
 use Rattle.ddl_names.proofs.twice.names_differ.Given as goal
 
 abbrev pub invariant-loop-unit : goal.invariant-loop-unit

@@ -2,7 +2,8 @@
 use Rattle.std.proofs.Common.{◌≡◌, ℕ, List, [], ◌∷◌, ◌++◌, length, map, refl, ap, sym, subst, ◌∙◌, arith}
 use Rattle.std.specs.Vec.Iter.{into_iter_items}
 use Rattle.ddl_tree.specs.declared.module.SourceUnit.{SourceUnit}
-use Rattle.ddl_names.specs.Resolves.{AreFirst, info_view, infos_from, loaded}
+use Rattle.ddl_names.specs.Resolves.{AreFirst, info_view, infos_from}
+use Rattle.ddl_uses.specs.Walks.{loaded}
 use Rattle.ddl_names.proofs.Firsts.{all_first, room_left}
 use Rattle.ddl_names.proofs.Keeping.{name_kept, names_kept, none_left, unit_kept, units_kept}
 use Rattle.ddl_names.proofs.resolved.Resolved.of.Goals as goal

@@ -1,6 +1,7 @@
 use Rattle.std.proofs.Common.{◌≡◌, ◌++◌, ◌+◌, length, map}
 use Rattle.std.specs.Vec.Iter.{into_iter_items, into_iter_len}
-use Rattle.ddl_names.specs.Resolves.{AreFirst, decl_count, info_view, infos_from, loaded}
+use Rattle.ddl_names.specs.Resolves.{AreFirst, decl_count, info_view, infos_from}
+use Rattle.ddl_uses.specs.Walks.{loaded}
 use Rattle.ddl_names.proofs.resolved.Resolved.of.Given as goal
 
 abbrev pub invariant-loop-unit : goal.invariant-loop-unit

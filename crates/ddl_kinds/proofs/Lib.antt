@@ -1,0 +1,3 @@
+pub mod Arguing
+pub mod Finding
+pub mod FirstBranch

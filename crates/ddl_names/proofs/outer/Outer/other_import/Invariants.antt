@@ -1,7 +1,0 @@
-use Rattle.std.proofs.Common.{◌≡◌, drop}
-use Rattle.std.specs.Prelude.{find}
-use Rattle.ddl_names.specs.Found.{is_other, site_view}
-use Rattle.ddl_names.proofs.outer.Outer.other_import.Given as goal
-
-abbrev pub invariant-loop-import : goal.invariant-loop-import
-invariant-loop-import l = find (is_other (site_view l.self).units l.text l.first) (drop l.import-index l.imports) ≡ find (is_other (site_view l.self).units l.text l.first) l.imports

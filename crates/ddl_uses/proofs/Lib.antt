@@ -1,0 +1,10 @@
+pub mod Done
+pub mod Kept
+pub mod Left
+pub mod Naming
+pub mod Outermost
+pub mod Outside
+pub mod Placed
+pub mod Scoped
+pub mod Staying
+pub mod Walking

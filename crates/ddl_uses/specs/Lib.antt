@@ -1,0 +1,5 @@
+pub mod Bindings
+pub mod Forms
+pub mod Held
+pub mod Scope
+pub mod Walks
