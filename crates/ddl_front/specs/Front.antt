@@ -11,8 +11,8 @@ use Rattle.ddl_modules.specs.Reading.{Read, TouchesOnlyThese}
 use Rattle.ddl_modules.specs.declared.error.LoadError.{LoadError}
 use Rattle.ddl_modules.specs.declared.error.LoadError.TheVariants as load_is
 use Rattle.ddl_names.specs.Modules.{refusal}
-use Rattle.ddl_names.specs.Resolves.{loaded}
-use Rattle.ddl_names.specs.declared.error.NameError.{NameError}
+use Rattle.ddl_uses.specs.Walks.{loaded}
+use Rattle.ddl_kinds.specs.declared.error.NameError.{NameError}
 use Rattle.ddl_tree.specs.declared.module.SourceUnit.{SourceUnit}
 use Rattle.ddl_front.specs.Reasons.{IsLoadReason, IsNameReason, reason_view}
 

@@ -8,8 +8,8 @@ use Rattle.ddl_lex.specs.declared.error.LexError.{LexError}
 use Rattle.ddl_lex.specs.declared.error.LexError.TheVariants as lex_is
 use Rattle.ddl_modules.specs.declared.error.LoadError.{LoadError}
 use Rattle.ddl_modules.specs.declared.error.LoadError.TheVariants as load_is
-use Rattle.ddl_names.specs.declared.error.NameError.{NameError}
-use Rattle.ddl_names.specs.declared.error.NameError.TheVariants as name_is
+use Rattle.ddl_kinds.specs.declared.error.NameError.{NameError}
+use Rattle.ddl_kinds.specs.declared.error.NameError.TheVariants as name_is
 use Rattle.ddl_source.specs.declared.error.SourceError.{SourceError}
 use Rattle.ddl_source.specs.declared.error.SourceError.TheVariants as wrong
 use Rattle.ddl_tree.specs.declared.module.SourceUnit.{SourceUnit}

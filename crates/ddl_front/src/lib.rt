@@ -6,6 +6,3 @@ mod reasons;
 
 pub use modules::bound_modules;
 pub use reasons::{long_told, source_told};
-
-#[cfg(test)]
-mod tests;

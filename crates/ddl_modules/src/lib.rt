@@ -13,6 +13,3 @@ mod rows;
 pub use error::LoadError;
 pub use loader::load;
 pub use names::module_name;
-
-#[cfg(test)]
-mod tests;

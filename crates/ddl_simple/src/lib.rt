@@ -8,8 +8,6 @@ mod grammars;
 mod modules;
 mod scope;
 mod stop;
-#[cfg(test)]
-mod tests;
 mod types;
 
 pub use modules::specified;

@@ -2,7 +2,7 @@ use ddl_base::NoMemory;
 use std::alloc::{AllocError, AllocFailed};
 
 /// Why there is no typed tree.
-#[derive(Clone, Copy, Debug, PartialEq, Eq)]
+#[derive(Clone, Copy, PartialEq, Eq)]
 pub(crate) enum Stop {
     /// The module is not of the form.
     Outside,

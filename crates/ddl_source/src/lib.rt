@@ -8,6 +8,3 @@ mod source;
 pub use error::SourceError;
 pub use law::shown_modules_are_read_back;
 pub use source::tree_of;
-
-#[cfg(test)]
-mod tests;

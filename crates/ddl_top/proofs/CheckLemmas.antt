@@ -6,12 +6,11 @@ use Rattle.std.proofs.lemmas.Option.{slice_get_cases}
 use Rattle.std.specs.Prelude.{Result, Ok, Err, IfOk, Option, Some, None, slice_get, drop, flat_map}
 use Rattle.ddl_base.specs.declared.memory.NoMemory.{NoMemory}
 use Rattle.ddl_front.specs.Front.{FindsModules, HaveBindings, IsRefused}
-use Rattle.ddl_names.specs.Bindings.{Loaded}
-use Rattle.ddl_names.specs.Findings.{Finding, first_refusal}
-use Rattle.ddl_names.specs.Found.{unit_view}
+use Rattle.ddl_uses.specs.Bindings.{Loaded}
+use Rattle.ddl_kinds.specs.Findings.{Finding, first_refusal}
+use Rattle.ddl_uses.specs.Walks.{unit_view, loaded}
 use Rattle.ddl_names.specs.Modules.{declared_twice, findings_from, one_too_many, too_many}
-use Rattle.ddl_names.specs.Resolves.{loaded}
-use Rattle.ddl_names.specs.declared.error.NameError.{NameError}
+use Rattle.ddl_kinds.specs.declared.error.NameError.{NameError}
 use Rattle.ddl_tree.specs.ModuleTree as mo
 use Rattle.ddl_tree.specs.ViewModule.{decl_view}
 use Rattle.ddl_outside.specs.Files.{FilesState}

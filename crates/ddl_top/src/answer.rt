@@ -16,7 +16,7 @@ use ddl_typed::{Close, Parse, TDecl, denote};
 use std::alloc::Global;
 
 /// How a call ends, and the lines that it writes.
-#[derive(Debug, Drop)]
+#[derive(Drop)]
 pub(crate) struct Answer {
     pub(crate) status: Status,
     pub(crate) lines: Vec<Bytes>,

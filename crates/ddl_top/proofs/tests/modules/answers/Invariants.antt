@@ -1,5 +1,0 @@
-use Rattle.std.proofs.Common.{◌≡◌}
-use Rattle.ddl_top.proofs.tests.modules.answers.Given as goal
-
-abbrev pub invariant-files : goal.invariant-files
-invariant-files g l = l.files.calls ≡ 0
