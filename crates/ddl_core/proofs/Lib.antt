@@ -1,4 +1,5 @@
 pub mod Law
 pub mod Layers
+pub mod OperationRows
 pub mod Rows
 pub mod Single
