@@ -1,0 +1,11 @@
+pub mod Copied
+pub mod Keeping
+pub mod Kinds
+pub mod LocalTypes
+pub mod Needed
+pub mod Queue
+pub mod Refusals
+pub mod Scoped
+pub mod Shapes
+pub mod Specialised
+pub mod Valid
