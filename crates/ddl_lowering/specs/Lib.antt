@@ -1,0 +1,9 @@
+pub mod Choices
+pub mod Laws
+pub mod Loops
+pub mod Lowered
+pub mod PartTypes
+pub mod Parts
+pub mod Program
+pub mod Repetitions
+pub mod Scopes
