@@ -1,0 +1,17 @@
+pub mod Answers
+pub mod Arithmetic
+pub mod Below
+pub mod Collections
+pub mod Covering
+pub mod Environments
+pub mod Input
+pub mod Joins
+pub mod Keeping
+pub mod Keys
+pub mod Members
+pub mod NeverStuck
+pub mod Operators
+pub mod Reading
+pub mod SoundRows
+pub mod WalkGrammars
+pub mod WalkValues

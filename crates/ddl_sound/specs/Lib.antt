@@ -1,0 +1,11 @@
+pub mod BasicTypes
+pub mod BlockTypes
+pub mod Context
+pub mod Exhaustive
+pub mod HasType
+pub mod IsTyped
+pub mod Laws
+pub mod Members
+pub mod Operations
+pub mod Sound
+pub mod Typed
