@@ -1,0 +1,17 @@
+pub mod Code
+pub mod CodeView
+pub mod Conditions
+pub mod Failing
+pub mod Laws
+pub mod Machine
+pub mod OperationTypes
+pub mod Owned
+pub mod Places
+pub mod Placing
+pub mod Reading
+pub mod Run
+pub mod SlotMachine
+pub mod SlotRun
+pub mod SlotState
+pub mod State
+pub mod WellTyped
