@@ -1,0 +1,14 @@
+pub mod Branches
+pub mod Closed
+pub mod Gaps
+pub mod Grammars
+pub mod Groups
+pub mod Making
+pub mod Names
+pub mod Operators
+pub mod Replaced
+pub mod Retyped
+pub mod Typed
+pub mod Typing
+pub mod Values
+pub mod WrittenTypes

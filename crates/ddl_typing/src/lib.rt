@@ -1,0 +1,2 @@
+//! The typing of declarations: definitions.
+#![tactic(auto)]
