@@ -1,0 +1,11 @@
+pub mod Commuting
+pub mod Fitting
+pub mod Fronts
+pub mod General
+pub mod Lists
+pub mod OnBranches
+pub mod OnNames
+pub mod OnValues
+pub mod Principal
+pub mod RetypedTwice
+pub mod Twice
