@@ -1,0 +1,2 @@
+pub mod OneNames
+pub mod OneSource
