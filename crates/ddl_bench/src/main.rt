@@ -7,8 +7,8 @@ mod equations;
 mod layouts;
 mod tokens;
 
-use crate::declarations::Uses;
 use crate::equations::{Link, Order, Towers, equal_towers, tower};
+use ddl_sample_groups::Uses;
 use std::alloc::Global;
 use std::io::{Error, ErrorKind};
 use std::{env, fs, io};

@@ -2,7 +2,7 @@ use Rattle.std.proofs.Common.{ap, ◌∙◌, arith}
 use Rattle.ddl_bits.specs.View.{layout_view}
 use Rattle.ddl_bits.specs.Widths.{one_width_of}
 use Rattle.ddl_bits.proofs.Built.{inner_accepted}
-use Rattle.ddl_bench.proofs.layouts.inner.Goals as goal
+use Rattle.ddl_samples.proofs.layouts.inner.Goals as goal
 
 pub holding-requires : goal.holding-requires
 holding-requires c =
