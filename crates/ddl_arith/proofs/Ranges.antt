@@ -1,5 +1,6 @@
 -- Ranges of the signed types, beside that of 128 bits.
-use Rattle.std.proofs.Common.{◌≡◌, ℕ, zero, suc, ◌+◌, ◌-◌, ◌*◌, ◌%◌, ◌^◌, ◌<◌, ◌≤◌, Bool, true, false, ◌&&◌, ℤ, pos, negsuc, ◌*ℤ◌, neg_ℤ, ltb, Option, Some, None, Result, Ok, Err, mod-eq_of_lt, refl, sym, ◌∙◌, ap, inl, inr, arith, if◌then◌else◌}
+use Rattle.std.proofs.Common.{◌≡◌, ℕ, zero, suc, ◌+◌, ◌-◌, ◌*◌, ◌%◌, ◌^◌, ◌<◌, ◌≤◌, Bool, true, false, ◌&&◌, ℤ, pos, negsuc, ◌*ℤ◌, neg_ℤ, ltb, Option, Some}
+use Rattle.std.proofs.Common.{None, Result, Ok, Err, mod-eq_of_lt, refl, sym, ◌∙◌, ap, inl, inr, arith, if◌then◌else◌}
 use Rattle.std.specs.Prelude.{int_le, int_lt, FitsSigned}
 use Rattle.std.specs.Option.{SomeIff, IfNone, IfSome}
 use Rattle.std.specs.Result.{OkIff, result_ok}
@@ -47,17 +48,20 @@ over_kept width z true is within over = absurd (over (fits_wide width z within i
 over_kept width z false is within over = ap (λ inside. if inside then Some (Sint z) else None) is
 
 -- what does not fit 128 bits is not kept
-pub not_kept : (E : Type 0) (width : ℕ) (z : ℤ) (wide : Result ℤ E) → width ≤ 128 → OkIff wide (FitsSigned w128 z) z → result_ok wide ≡ None → kept (Ty.Sint width) z ≡ None
+pub not_kept : (E : Type 0) (width : ℕ) (z : ℤ) (wide : Result ℤ E) → width ≤ 128 → OkIff wide (FitsSigned w128 z) z → result_ok wide ≡ None
+    → kept (Ty.Sint width) z ≡ None
 not_kept E width z (Ok y) within iff none = absurd cc
 not_kept E width z (Err e) within iff none = over_kept width z _ refl within iff
 
 -- an answer that is settled where z fits 128 bits, and else an overflow
-pub settled_sint : (width : ℕ) (exact : Option ℤ) (z : ℤ) (answer : Result Num Fault) → width ≤ 128 → SomeIff exact (FitsSigned w128 z) z → IfNone exact (answer ≡ Err Overflow) → IfSome exact (λ y. answer ≡ settled (Ty.Sint width) y) → answer ≡ settled (Ty.Sint width) z
+pub settled_sint : (width : ℕ) (exact : Option ℤ) (z : ℤ) (answer : Result Num Fault) → width ≤ 128 → SomeIff exact (FitsSigned w128 z) z
+    → IfNone exact (answer ≡ Err Overflow) → IfSome exact (λ y. answer ≡ settled (Ty.Sint width) y) → answer ≡ settled (Ty.Sint width) z
 settled_sint width None z answer within iff none some = none ∙ sym (over_wide width z _ refl within iff)
 settled_sint width (Some y) z answer within iff none some = some ∙ ap (settled (Ty.Sint width)) iff.1
 
 -- two numbers of 128 bits, as a callee is given them
-pub as_given : {A : Type 0} (f : ℤ → ℤ → A) (x y : ℤ) → FitsSigned w128 x → FitsSigned w128 y → f (cast_signed w128 (cast_unsigned w128 x)) (cast_signed w128 (cast_unsigned w128 y)) ≡ f x y
+pub as_given : {A : Type 0} (f : ℤ → ℤ → A) (x y : ℤ) → FitsSigned w128 x → FitsSigned w128 y
+    → f (cast_signed w128 (cast_unsigned w128 x)) (cast_signed w128 (cast_unsigned w128 y)) ≡ f x y
 as_given f x y p q = ap (λ a. f a (cast_signed w128 (cast_unsigned w128 y))) (to_z-of_z w128 x p) ∙ ap (f x) (to_z-of_z w128 y q)
 
 pub not_zero : (y : ℤ) → (cast_unsigned w128 y ≡ 0 → ⊥) → is_zero y ≡ false
@@ -107,7 +111,8 @@ negative_bits n times m small e fits =
     let parts : (2 ^ 128 - suc n) * suc times ≡ times * 2 ^ 128 + (2 ^ 128 - suc m) = omega arith in
     ap (λ k. k % 2 ^ 128) parts ∙ mod-mul-add times (2 ^ 128) (2 ^ 128 - suc m) (omega arith)
 
-pub product_bits : (z : ℤ) (times : ℕ) → 0 < times → FitsSigned w128 z → FitsSigned w128 (z *ℤ pos times) → cast_signed w128 (cast_unsigned w128 z * times % 2 ^ 128) ≡ z *ℤ pos times
+pub product_bits : (z : ℤ) (times : ℕ) → 0 < times → FitsSigned w128 z → FitsSigned w128 (z *ℤ pos times)
+    → cast_signed w128 (cast_unsigned w128 z * times % 2 ^ 128) ≡ z *ℤ pos times
 product_bits (pos n) times h small fits =
     let below = fits.sfits in
     let e : n * times % 2 ^ 128 ≡ n * times = mod-eq_of_lt (omega arith) in

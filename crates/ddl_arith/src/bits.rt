@@ -1,4 +1,5 @@
-ghost use Rattle.std.specs.Prelude.{◌≡◌, ◌≤◌, ◌<◌, ◌^◌, ◌%◌, ◌-◌, IsTrue, ◌↔◌, pos, negsuc, int_lt, int_le, if◌then◌else◌, nat_lt};
+ghost use Rattle.std.specs.Prelude.{◌≡◌, ◌≤◌, ◌<◌, ◌^◌, ◌%◌, ◌-◌, IsTrue, ◌↔◌, pos, negsuc, int_lt, int_le};
+ghost use Rattle.std.specs.Prelude.{if◌then◌else◌, nat_lt};
 ghost use Rattle.ddl_types.specs.Num.{in_range};
 ghost use Rattle.ddl_types.specs.declared.num.NumType.TheVariants as Ty;
 

@@ -1,5 +1,6 @@
 -- Facts of lists of distinct texts, each of them held in a value of another type.
-use Rattle.std.proofs.Common.{◌≡◌, ℕ, zero, suc, ◌+◌, ◌<◌, ◌≤◌, Bool, true, false, ◌||◌, List, [], ◌∷◌, ◌++◌, map, length, get_or, slice_get, position, Some, is_some, Contains, nat_eq, refl, sym, ap, subst, ◌∙◌, true≢false, if◌then◌else◌, ◌⊎◌, inl, inr, arith}
+use Rattle.std.proofs.Common.{◌≡◌, ℕ, zero, suc, ◌+◌, ◌<◌, ◌≤◌, Bool, true, false, ◌||◌, List, [], ◌∷◌, ◌++◌, map, length, get_or, slice_get, position, Some}
+use Rattle.std.proofs.Common.{is_some, Contains, nat_eq, refl, sym, ap, subst, ◌∙◌, true≢false, if◌then◌else◌, ◌⊎◌, inl, inr, arith}
 use Rattle.std.proofs.Math.Bool.{or-true}
 use Rattle.std.proofs.lemmas.Bool.{cases_order}
 use Rattle.std.proofs.lemmas.List.{get_or-map, length-map, map_push}
@@ -44,7 +45,8 @@ module _ {K : Type 0} (f : K → List ℕ) where
   IsWith-inserted ks made value k n text is keys at alike = by (list_any (λ y. pointwise nat_eq (f value) (f y)) ks) refl
     where
       place : slice_get (map f made) n ≡ Some text
-      place = place-map made n k text (slice_get_within made n k at) (ap f (get_or_from_slice_get made n k k at) ∙ sym ((bytes_decides (f value) (f k)).0 alike) ∙ is)
+      place = place-map made n k text (slice_get_within made n k at) (ap f (get_or_from_slice_get made n k k at) ∙ sym ((bytes_decides (f value) (f k)).0 alike)
+          ∙ is)
 
       absent : list_any (λ y. pointwise nat_eq (f value) (f y)) ks ≡ false → Contains (map f ks) text → ⊥
       absent e c =
@@ -54,7 +56,12 @@ module _ {K : Type 0} (f : K → List ℕ) where
       by : (b : Bool) → list_any (λ y. pointwise nat_eq (f value) (f y)) ks ≡ b → IsWith (map f ks) text n (map f made)
       by true e =
           let same : made ≡ ks = keys ∙ ap (λ c. if c then ks else ks ++ value ∷ []) e in
-          record { place = place; old = λ _. ap (map f) same; added = λ no. absurd (no (contained (map f ks) n text (subst (λ l. slice_get (map f l) n ≡ Some text) same place))) }
+          record {
+            place = place;
+            old = λ _. ap (map f) same;
+            added =
+                λ no. absurd (no (contained (map f ks) n text (subst (λ l. slice_get (map f l) n ≡ Some text) same place)));
+          }
       by false e =
           let longer : made ≡ ks ++ value ∷ [] = keys ∙ ap (λ c. if c then ks else ks ++ value ∷ []) e in
           record { place = place; old = λ c. absurd (absent e c); added = λ _. ap (map f) longer ∙ map_push f ks value ∙ ap (λ t. map f ks ++ t ∷ []) is }
@@ -68,7 +75,8 @@ module _ {K : Type 0} (f : K → List ℕ) where
   apart ks d distinct i j text p q l =
       let a : (i < length ks) × (f (get_or ks i d) ≡ text) = at-map ks i d text p in
       let b : (j < length ks) × (f (get_or ks j d) ≡ text) = at-map ks j d text q in
-      true≢false (sym ((bytes_decides (f (get_or ks i d)) (f (get_or ks j d))).1 (a.1 ∙ sym b.1)) ∙ apart_from_distinct (λ x y. pointwise nat_eq (f x) (f y)) ks i j d distinct l b.0)
+      true≢false (sym ((bytes_decides (f (get_or ks i d)) (f (get_or ks j d))).1 (a.1 ∙ sym b.1))
+      ∙ apart_from_distinct (λ x y. pointwise nat_eq (f x) (f y)) ks i j d distinct l b.0)
 
   by_order : (ks : List K) (d : K) → IsDistinct (λ x y. pointwise nat_eq (f x) (f y)) ks → (i j : ℕ) (text : List ℕ)
       → slice_get (map f ks) i ≡ Some text → slice_get (map f ks) j ≡ Some text → (i ≡ j) ⊎ ((i < j) ⊎ (j < i)) → i ≡ j

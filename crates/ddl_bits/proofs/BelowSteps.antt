@@ -1,5 +1,6 @@
 -- One step of counting the numbers below a number that fit the parts of a constructor.
-use Rattle.std.proofs.Common.{◌≡◌, ℕ, ◌+◌, ◌-◌, ◌*◌, ◌/◌, ◌%◌, ◌^◌, ◌<◌, ◌≤◌, ltb, cond, Bool, List, length, get_or, take, drop, length-drop, min, ap, subst, sym, ◌∙◌, arith}
+use Rattle.std.proofs.Common.{◌≡◌, ℕ, ◌+◌, ◌-◌, ◌*◌, ◌/◌, ◌%◌, ◌^◌, ◌<◌, ◌≤◌, ltb, cond, Bool, List, length, get_or, take, drop, length-drop, min, ap, subst}
+use Rattle.std.proofs.Common.{sym, ◌∙◌, arith}
 use Rattle.std.proofs.Math.Nat.{lt_of_mul-lt-mul_left, mul_comm}
 use Rattle.std.proofs.lemmas.List.{take_all}
 use Rattle.std.proofs.lemmas.Nat.{pow-add, pow_pos, shr_split, mod_below}
@@ -22,7 +23,8 @@ pub record BelowStep (p : Part) (rest : Parts) (bits left low whole : ℕ) : Typ
   pub shift : left - bits < 128
   pub high : low / 2 ^ (left - bits) < 2 ^ part_width p
   pub kept : low % 2 ^ (left - bits) < 2 ^ (left - bits)
-  pub split : whole ≡ tally (part_fits p) (low / 2 ^ (left - bits)) * tally (parts_fit rest) (2 ^ (left - bits)) + cond (part_fits p (low / 2 ^ (left - bits))) (tally (parts_fit rest) (low % 2 ^ (left - bits))) 0
+  pub split : whole ≡ tally (part_fits p) (low / 2 ^ (left - bits)) * tally (parts_fit rest) (2 ^ (left - bits))
+      + cond (part_fits p (low / 2 ^ (left - bits))) (tally (parts_fit rest) (low % 2 ^ (left - bits))) 0
 
 high_below : (low left w v : ℕ) → low < 2 ^ left → w + v ≡ left → low / 2 ^ v < 2 ^ w
 high_below low left w v h e =
@@ -31,7 +33,8 @@ high_below low left w v h e =
     let turn : 2 ^ v * (low / 2 ^ v) < 2 ^ v * 2 ^ w = omega (arith, split, power, mul_comm (2 ^ v) (low / 2 ^ v), mul_comm (2 ^ v) (2 ^ w)) in
     lt_of_mul-lt-mul_left (2 ^ v) turn
 
-below_step : (p : Part) (rest : Parts) (bits left low : ℕ) → PartAccepted p → PartsAccepted rest → part_width p + parts_width rest ≡ left → left ≤ 128 → low < 2 ^ left → bits ≡ min (part_width p) 129 → BelowStep p rest bits left low (tally (parts_fit (part p rest)) low)
+below_step : (p : Part) (rest : Parts) (bits left low : ℕ) → PartAccepted p → PartsAccepted rest → part_width p + parts_width rest ≡ left → left ≤ 128
+    → low < 2 ^ left → bits ≡ min (part_width p) 129 → BelowStep p rest bits left low (tally (parts_fit (part p rest)) low)
 below_step p rest bits left low accepted rest_accepted width few within is =
     let step = part_step p rest bits left (part_sized p accepted) (parts_sized rest rest_accepted) width few is in
     record {
@@ -42,15 +45,20 @@ below_step p rest bits left low accepted rest_accepted width few within is =
       shift = step.below;
       high = high_below low left (part_width p) (left - bits) within (omega (arith, step.bits_are, step.enough));
       kept = mod_below low (2 ^ (left - bits)) (pow_pos (left - bits));
-      split = tally_step p rest low ∙ ap (λ w. tally (part_fits p) (low / 2 ^ w) * tally (parts_fit rest) (2 ^ w) + cond (part_fits p (low / 2 ^ w)) (tally (parts_fit rest) (low % 2 ^ w)) 0) step.after;
+      split = tally_step p rest low ∙ ap (λ w. tally (part_fits p) (low / 2 ^ w) * tally (parts_fit rest) (2 ^ w)
+          + cond (part_fits p (low / 2 ^ w)) (tally (parts_fit rest) (low % 2 ^ w)) 0) step.after;
     }
 
-pub below_step_at : (xs : List LayoutPart) (i : ℕ) (x : LayoutPart) (bits left low : ℕ) → i < length xs → x ≡ get_or xs i x → PartsAccepted (parts_view (drop i xs)) → parts_width (parts_view (drop i xs)) ≡ left → left ≤ 128 → low < 2 ^ left → bits ≡ min (part_width (part_view x)) 129 → BelowStep (part_view x) (parts_view (drop (i + 1) xs)) bits left low (tally (parts_fit (parts_view (drop i xs))) low)
+pub below_step_at : (xs : List LayoutPart) (i : ℕ) (x : LayoutPart) (bits left low : ℕ) → i < length xs → x ≡ get_or xs i x
+    → PartsAccepted (parts_view (drop i xs)) → parts_width (parts_view (drop i xs)) ≡ left → left ≤ 128 → low < 2 ^ left
+    → bits ≡ min (part_width (part_view x)) 129 → BelowStep (part_view x) (parts_view (drop (i + 1) xs)) bits left low
+    (tally (parts_fit (parts_view (drop i xs))) low)
 below_step_at xs i x bits left low h is accepted width few within bits_are =
     let e = at_part xs i x h is in
     let both = part_accepted_at xs i x h is accepted in
     let P : ℕ → Type 0 = BelowStep (part_view x) (parts_view (drop (i + 1) xs)) bits left low in
-    subst P (sym (ap (λ ps. tally (parts_fit ps) low) e)) (below_step (part_view x) (parts_view (drop (i + 1) xs)) bits left low both.0 both.1 (sym (ap parts_width e) ∙ width) few within bits_are)
+    subst P (sym (ap (λ ps. tally (parts_fit ps) low) e)) (below_step (part_view x) (parts_view (drop (i + 1) xs)) bits left low both.0 both.1
+    (sym (ap parts_width e) ∙ width) few within bits_are)
 
 -- what is left of a slice
 pub rest_seen : (xs : List LayoutPart) (i : ℕ) → take (length xs - i) (drop i xs) ≡ drop i xs

@@ -7,7 +7,8 @@ use Rattle.ddl_bits.specs.View.{part_view, parts_view}
 use Rattle.ddl_bits.specs.Widths.{one_width_of}
 use Rattle.ddl_bits.proofs.Verdicts.{none_wide}
 
-pub part_pushed : (xs : List LayoutPart) (x : LayoutPart) → PartsAccepted (parts_view xs) → PartAccepted (part_view x) → PartsAccepted (parts_view (xs ++ (x ∷ [])))
+pub part_pushed : (xs : List LayoutPart) (x : LayoutPart) → PartsAccepted (parts_view xs) → PartAccepted (part_view x)
+    → PartsAccepted (parts_view (xs ++ (x ∷ [])))
 part_pushed [] x all here = (here, tt)
 part_pushed (y ∷ ys) x all here = (all.0, part_pushed ys x all.1 here)
 

@@ -1,5 +1,6 @@
 -- How many numbers below a bound fit a part, parts in a row, and a layout.
-use Rattle.std.proofs.Common.{◌≡◌, ℕ, zero, suc, ◌+◌, ◌*◌, ◌/◌, ◌%◌, ◌^◌, ◌<◌, ◌≤◌, Bool, true, false, ◌&&◌, ◌||◌, eqb, ltb, cond, if◌then◌else◌, refl, ◌∙◌, sym, ap, inl, inr, arith}
+use Rattle.std.proofs.Common.{◌≡◌, ℕ, zero, suc, ◌+◌, ◌*◌, ◌/◌, ◌%◌, ◌^◌, ◌<◌, ◌≤◌, Bool, true, false, ◌&&◌, ◌||◌, eqb, ltb, cond, if◌then◌else◌, refl, ◌∙◌}
+use Rattle.std.proofs.Common.{sym, ap, inl, inr, arith}
 use Rattle.std.proofs.lemmas.Nat.{div-mul-add, mod-mul-add, pow_pos, shr_split, mod_below}
 use Rattle.std.proofs.lemmas.Bool.{cases_lt, lt-ltb, le-ltb, eq-eqb, ne_eqb}
 use Rattle.ddl_bits.specs.Counts.{tally, tally_each}
@@ -92,7 +93,8 @@ upper_once true t = omega arith
 upper_once false t = omega arith
 
 -- how many numbers below n fit parts: those whose upper bits are below n's, and those whose upper bits are n's
-pub tally_step : (p : Part) (ps : Parts) (n : ℕ) → tally (parts_fit (part p ps)) n ≡ tally (part_fits p) (n / 2 ^ parts_width ps) * tally (parts_fit ps) (2 ^ parts_width ps) + cond (part_fits p (n / 2 ^ parts_width ps)) (tally (parts_fit ps) (n % 2 ^ parts_width ps)) 0
+pub tally_step : (p : Part) (ps : Parts) (n : ℕ) → tally (parts_fit (part p ps)) n ≡ tally (part_fits p) (n / 2 ^ parts_width ps)
+    * tally (parts_fit ps) (2 ^ parts_width ps) + cond (part_fits p (n / 2 ^ parts_width ps)) (tally (parts_fit ps) (n % 2 ^ parts_width ps)) 0
 tally_step p ps n =
     let b = 2 ^ parts_width ps in
     let q = n / b in
@@ -100,10 +102,12 @@ tally_step p ps n =
     let test : ℕ → Bool = parts_fit (part p ps) in
     let low : r < b = mod_below n b (pow_pos (parts_width ps)) in
     let e : n ≡ q * b + r = sym (shr_split n (parts_width ps)) in
-    let first : tally test (q * b) ≡ tally (part_fits p) q * tally (parts_fit ps) b = tally_product (part_fits p) (parts_fit ps) q b (pow_pos (parts_width ps)) in
+    let first : tally test (q * b) ≡ tally (part_fits p) q * tally (parts_fit ps) b = tally_product (part_fits p) (parts_fit ps) q b (pow_pos (parts_width ps))
+    in
     let last : tally (λ k. test (q * b + k)) r ≡ cond (part_fits p q) (tally (parts_fit ps) r) 0 =
     tally_same (λ k. test (q * b + k)) (λ k. part_fits p q && parts_fit ps k) r
-    (λ k below. let small : k < b = omega arith in ap (λ u. part_fits p u && parts_fit ps ((q * b + k) % b)) (div-mul-add q b k small) ∙ ap (λ u. part_fits p q && parts_fit ps u) (mod-mul-add q b k small))
+    (λ k below. let small : k < b = omega arith in ap (λ u. part_fits p u && parts_fit ps ((q * b + k) % b)) (div-mul-add q b k small)
+    ∙ ap (λ u. part_fits p q && parts_fit ps u) (mod-mul-add q b k small))
     ∙ one_upper (part_fits p q) (parts_fit ps) r
     ∙ upper_once (part_fits p q) (tally (parts_fit ps) r) in
     ap (tally test) e ∙ tally_split test (q * b) r ∙ omega (arith, first, last)

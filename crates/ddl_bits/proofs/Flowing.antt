@@ -1,12 +1,14 @@
 -- A number that fits is read by the leaves of a constructor, and runs by it from its highest bit on.
-use Rattle.std.proofs.Common.{◌≡◌, ℕ, ◌+◌, ◌-◌, ◌*◌, ◌/◌, ◌%◌, ◌^◌, ◌<◌, ◌≤◌, ◌⊎◌, Bool, true, false, eqb, ltb, if◌then◌else◌, List, get_or, take, drop, Some, None, refl, ◌∙◌, sym, ap, inl, inr, arith}
+use Rattle.std.proofs.Common.{◌≡◌, ℕ, ◌+◌, ◌-◌, ◌*◌, ◌/◌, ◌%◌, ◌^◌, ◌<◌, ◌≤◌, ◌⊎◌, Bool, true, false, eqb, ltb, if◌then◌else◌, List, get_or, take, drop, Some}
+use Rattle.std.proofs.Common.{None, refl, ◌∙◌, sym, ap, inl, inr, arith}
 use Rattle.std.proofs.Math.Nat.{div-div-eq-div-mul}
 use Rattle.std.proofs.lemmas.Bool.{cases_lt, eqb-true, ltb-false}
 use Rattle.std.proofs.lemmas.List.{get_or-take, get_or-drop, get_or_past, length-take}
 use Rattle.std.proofs.lemmas.Nat.{pow_pos, shr_split, mod_below, pow-add, div-mul-add}
 use Rattle.std.proofs.lemmas.Nat.Bits.{bit_at_cat_low, bit_at_cat_high}
 use Rattle.ddl_bits.specs.Flows.{part_leaves, parts_leaves, ReadsPart, ReadsParts, ReadsCons, RunsPart, RunsParts, RunsCons, RunsWhole, IsIn, shared_bit}
-use Rattle.ddl_bits.specs.Tree.{Part, fixed, any, inner, Parts, no_parts, part, Cons, no_cons, con, cons_width, part_width, parts_width, part_fits, parts_fit, cons_fit, PartSized, PartsSized, ConsSized}
+use Rattle.ddl_bits.specs.Tree.{Part, fixed, any, inner, Parts, no_parts, part, Cons, no_cons, con, cons_width, part_width, parts_width, part_fits, parts_fit}
+use Rattle.ddl_bits.specs.Tree.{cons_fit, PartSized, PartsSized, ConsSized}
 use Rattle.ddl_bits.proofs.GivenBits.{part_told}
 use Rattle.ddl_bits.proofs.Searching.{first_true, second_true, either_true}
 
@@ -17,12 +19,24 @@ bit_high q w r place low =
 
 -- a number is read by what some of its bits fit
 mutual
-  part_read : (p : Part) → PartSized p → (low n q : ℕ) → ((place : ℕ) → place < part_width p → n / 2 ^ (low + place) % 2 ≡ q / 2 ^ place % 2) → part_fits p q ≡ true → ReadsPart p low n
-  part_read (fixed bits width) sized low n q same fits = record { possible = sym (ap (λ m. ltb m (2 ^ width)) (eqb-true q bits (first_true (eqb q bits) (ltb q (2 ^ width)) fits))) ∙ second_true (eqb q bits) (ltb q (2 ^ width)) fits; bits = λ place b inside given. same place inside ∙ part_told (fixed bits width) place q b given fits }
-  part_read (any width) sized low n q same fits = record { possible = refl; bits = λ place b inside given. same place inside ∙ part_told (any width) place q b given fits }
+  part_read : (p : Part) → PartSized p → (low n q : ℕ) → ((place : ℕ) → place < part_width p → n / 2 ^ (low + place) % 2 ≡ q / 2 ^ place % 2)
+      → part_fits p q ≡ true → ReadsPart p low n
+  part_read (fixed bits width) sized low n q same fits = record {
+    possible =
+        sym (ap (λ m. ltb m (2 ^ width)) (eqb-true q bits (first_true (eqb q bits) (ltb q (2 ^ width)) fits)))
+        ∙ second_true (eqb q bits) (ltb q (2 ^ width)) fits;
+    bits = λ place b inside given. same place inside
+        ∙ part_told (fixed bits width) place q b given fits;
+  }
+  part_read (any width) sized low n q same fits = record {
+    possible = refl;
+    bits = λ place b inside given. same place inside
+        ∙ part_told (any width) place q b given fits;
+  }
   part_read (inner cons) sized low n q same fits = cons_read cons (cons_width cons) sized.1 low n q same fits
 
-  parts_read : (ps : Parts) → PartsSized ps → (low n r : ℕ) → ((place : ℕ) → place < parts_width ps → n / 2 ^ (low + place) % 2 ≡ r / 2 ^ place % 2) → parts_fit ps r ≡ true → ReadsParts ps low n
+  parts_read : (ps : Parts) → PartsSized ps → (low n r : ℕ) → ((place : ℕ) → place < parts_width ps → n / 2 ^ (low + place) % 2 ≡ r / 2 ^ place % 2)
+      → parts_fit ps r ≡ true → ReadsParts ps low n
   parts_read no_parts sized low n r same fits = tt
   parts_read (part p ps) sized low n r same fits =
       let v = parts_width ps in
@@ -45,7 +59,8 @@ mutual
             (second_true (part_fits p q) (parts_fit ps rest) fits),
       )
 
-  cons_read : (cons : Cons) (width : ℕ) → ConsSized cons width → (low n q : ℕ) → ((place : ℕ) → place < width → n / 2 ^ (low + place) % 2 ≡ q / 2 ^ place % 2) → cons_fit cons q ≡ true → ReadsCons cons low n
+  cons_read : (cons : Cons) (width : ℕ) → ConsSized cons width → (low n q : ℕ) → ((place : ℕ) → place < width → n / 2 ^ (low + place) % 2 ≡ q / 2 ^ place % 2)
+      → cons_fit cons q ≡ true → ReadsCons cons low n
   cons_read no_cons width sized low n q same fits = absurd cc
   cons_read (con ps cons) width sized low n q same fits =
       either_true (parts_fit ps q) (cons_fit cons q) (ReadsParts ps low n ⊎ ReadsCons cons low n)
@@ -68,11 +83,16 @@ mutual
   part_starts (any width) sized low marks k n above reads = (reads, λ over under. absurd (omega arith))
   part_starts (inner cons) sized low marks k n above reads = cons_start cons (cons_width cons) sized.1 low marks k n above reads
 
-  pub parts_start : (ps : Parts) → PartsSized ps → (low : ℕ) (marks : List Bool) (k n : ℕ) → low + parts_width ps < k → ReadsParts ps low n → RunsParts ps low marks k n
+  pub parts_start : (ps : Parts) → PartsSized ps → (low : ℕ) (marks : List Bool) (k n : ℕ) → low + parts_width ps < k → ReadsParts ps low n
+      → RunsParts ps low marks k n
   parts_start no_parts sized low marks k n above reads = tt
-  parts_start (part p ps) sized low marks k n above reads = (part_starts p sized.0 (low + parts_width ps) (take (part_leaves p) marks) k n (omega arith) reads.0, parts_start ps sized.1 low (drop (part_leaves p) marks) k n (omega arith) reads.1)
+  parts_start (part p ps) sized low marks k n above reads = (
+    part_starts p sized.0 (low + parts_width ps) (take (part_leaves p) marks) k n (omega arith) reads.0,
+    parts_start ps sized.1 low (drop (part_leaves p) marks) k n (omega arith) reads.1,
+  )
 
-  cons_start : (cons : Cons) (width : ℕ) → ConsSized cons width → (low : ℕ) (marks : List Bool) (k n : ℕ) → low + width < k → ReadsCons cons low n → RunsCons cons low marks k n
+  cons_start : (cons : Cons) (width : ℕ) → ConsSized cons width → (low : ℕ) (marks : List Bool) (k n : ℕ) → low + width < k → ReadsCons cons low n
+      → RunsCons cons low marks k n
   cons_start no_cons width sized low marks k n above reads = absurd reads
   cons_start (con ps cons) width sized low marks k n above reads =
       elim reads [
@@ -105,7 +125,12 @@ mutual
 
   parts_more : (ps : Parts) (low : ℕ) (xs ys : List Bool) (k n : ℕ) → Within xs ys → RunsParts ps low xs k n → RunsParts ps low ys k n
   parts_more no_parts low xs ys k n h runs = tt
-  parts_more (part p ps) low xs ys k n h runs = (part_more p (low + parts_width ps) (take (part_leaves p) xs) (take (part_leaves p) ys) k n (within_take (part_leaves p) xs ys h) runs.0, parts_more ps low (drop (part_leaves p) xs) (drop (part_leaves p) ys) k n (within_drop (part_leaves p) xs ys h) runs.1)
+  parts_more (part p ps) low xs ys k n h runs = (
+    part_more p (low + parts_width ps) (take (part_leaves p) xs) (take (part_leaves p) ys) k n
+        (within_take (part_leaves p) xs ys h) runs.0,
+    parts_more ps low (drop (part_leaves p) xs) (drop (part_leaves p) ys) k n
+        (within_drop (part_leaves p) xs ys h) runs.1,
+  )
 
   cons_more : (cons : Cons) (low : ℕ) (xs ys : List Bool) (k n : ℕ) → Within xs ys → RunsCons cons low xs k n → RunsCons cons low ys k n
   cons_more no_cons low xs ys k n h runs = absurd runs
@@ -116,7 +141,10 @@ mutual
       ]
 
 pub whole_more : (ps : Parts) (xs ys : List Bool) (k n : ℕ) → Within xs ys → RunsWhole ps xs k n → RunsWhole ps ys k n
-whole_more ps xs ys k n h runs = (parts_more ps 0 (take (parts_leaves ps) xs) (take (parts_leaves ps) ys) k n (within_take (parts_leaves ps) xs ys h) runs.0, λ last. h (parts_leaves ps) (runs.1 last))
+whole_more ps xs ys k n h runs = (
+  parts_more ps 0 (take (parts_leaves ps) xs) (take (parts_leaves ps) ys) k n (within_take (parts_leaves ps) xs ys h) runs.0,
+  λ last. h (parts_leaves ps) (runs.1 last),
+)
 
 -- a number of an aligned range has its upper bits
 pub in_range : (from bits p n : ℕ) → from ≡ p * 2 ^ bits → from ≤ n → n < from + 2 ^ bits → IsIn from bits n
@@ -132,7 +160,8 @@ shift_more n bits place h =
     let e : place ≡ bits + (place - bits) = omega arith in
     ap (λ k. n / 2 ^ k) e ∙ ap (λ k. n / k) (pow-add 2 bits (place - bits)) ∙ sym (div-div-eq-div-mul n (2 ^ bits) (2 ^ (place - bits)))
 
-shared_when : (from bits place n b : ℕ) (t : Bool) → ltb place bits ≡ t → IsIn from bits n → (if t then None else Some (from / 2 ^ place % 2)) ≡ Some b → n / 2 ^ place % 2 ≡ b
+shared_when : (from bits place n b : ℕ) (t : Bool) → ltb place bits ≡ t → IsIn from bits n → (if t then None else Some (from / 2 ^ place % 2)) ≡ Some b
+    → n / 2 ^ place % 2 ≡ b
 shared_when from bits place n b true is inside given = absurd cc
 shared_when from bits place n b false is inside given =
     let h = ltb-false place bits is in

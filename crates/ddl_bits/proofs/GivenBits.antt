@@ -1,5 +1,6 @@
 -- A number that fits has the bits that are given.
-use Rattle.std.proofs.Common.{◌≡◌, ℕ, ◌+◌, ◌-◌, ◌*◌, ◌/◌, ◌%◌, ◌^◌, ◌<◌, Bool, true, false, not, eqb, ltb, if◌then◌else◌, Option, Some, None, refl, ◌∙◌, sym, ap}
+use Rattle.std.proofs.Common.{◌≡◌, ℕ, ◌+◌, ◌-◌, ◌*◌, ◌/◌, ◌%◌, ◌^◌, ◌<◌, Bool, true, false, not, eqb, ltb, if◌then◌else◌, Option, Some, None, refl, ◌∙◌, sym}
+use Rattle.std.proofs.Common.{ap}
 use Rattle.std.proofs.lemmas.Bool.{eqb-true, ltb-true, ltb-false, eq-eqb}
 use Rattle.std.proofs.lemmas.Nat.{pow_pos, shr_split, mod_below}
 use Rattle.std.proofs.lemmas.Nat.Bits.{bit_at_cat_low, bit_at_cat_high}
@@ -16,7 +17,8 @@ part_told (fixed bits width) place n b given fits =
 part_told (any width) place n b given fits = absurd cc
 part_told (inner cons) place n b given fits = absurd cc
 
-joined_told : (u v : Option ℕ) (place w q r b : ℕ) (t : Bool) → ltb place w ≡ t → r < 2 ^ w → (u ≡ Some b → r / 2 ^ place % 2 ≡ b) → (v ≡ Some b → q / 2 ^ (place - w) % 2 ≡ b) → (if t then u else v) ≡ Some b → (q * 2 ^ w + r) / 2 ^ place % 2 ≡ b
+joined_told : (u v : Option ℕ) (place w q r b : ℕ) (t : Bool) → ltb place w ≡ t → r < 2 ^ w → (u ≡ Some b → r / 2 ^ place % 2 ≡ b)
+    → (v ≡ Some b → q / 2 ^ (place - w) % 2 ≡ b) → (if t then u else v) ≡ Some b → (q * 2 ^ w + r) / 2 ^ place % 2 ≡ b
 joined_told u v place w q r b true is low f g given = bit_at_cat_low q w r place (ltb-true place w is) ∙ f given
 joined_told u v place w q r b false is low f g given = bit_at_cat_high q w r place low (ltb-false place w is) ∙ g given
 

@@ -1,5 +1,6 @@
 -- At a cut the upper bits of one number that fits and the lower bits of another make up a third.
-use Rattle.std.proofs.Common.{◌≡◌, ℕ, ◌+◌, ◌-◌, ◌*◌, ◌/◌, ◌%◌, ◌^◌, ◌<◌, ◌≤◌, Bool, true, false, ◌&&◌, ◌||◌, eqb, ltb, if◌then◌else◌, refl, ◌∙◌, sym, ap, subst, inl, inr, arith}
+use Rattle.std.proofs.Common.{◌≡◌, ℕ, ◌+◌, ◌-◌, ◌*◌, ◌/◌, ◌%◌, ◌^◌, ◌<◌, ◌≤◌, Bool, true, false, ◌&&◌, ◌||◌, eqb, ltb, if◌then◌else◌, refl, ◌∙◌, sym, ap, subst}
+use Rattle.std.proofs.Common.{inl, inr, arith}
 use Rattle.std.proofs.Math.Nat.{mod-le, div-eq_of_lt}
 use Rattle.std.proofs.Math.Pow.{mod-mod-pow}
 use Rattle.std.proofs.lemmas.Bool.{cases_lt, eqb-true, ltb-true, ltb-false, lt-ltb}
@@ -50,7 +51,8 @@ both_true : (a b : Bool) → a ≡ true → b ≡ true → (a && b) ≡ true
 both_true true b h g = g
 both_true false b h g = absurd cc
 
-fixed_mixes : (bits width place m n k : ℕ) → part_fits (fixed bits width) m ≡ true → part_fits (fixed bits width) n ≡ true → IsMixed place m n k → part_fits (fixed bits width) k ≡ true
+fixed_mixes : (bits width place m n k : ℕ) → part_fits (fixed bits width) m ≡ true → part_fits (fixed bits width) n ≡ true → IsMixed place m n k
+    → part_fits (fixed bits width) k ≡ true
 fixed_mixes bits width place m n k f g mixed =
     let first : m ≡ bits = eqb-true m bits (first_true (eqb m bits) (ltb m (2 ^ width)) f) in
     let second : n ≡ bits = eqb-true n bits (first_true (eqb n bits) (ltb n (2 ^ width)) g) in
@@ -76,17 +78,22 @@ any_mixes width place m n k f g mixed =
 abbrev pub Mixes : (ℕ → Bool) → ℕ → Type 0
 Mixes test place = (m n k : ℕ) → test m ≡ true → test n ≡ true → IsMixed place m n k → test k ≡ true
 
-join_mixes : (p : Part) (ps : Parts) (place m n k : ℕ) (lower at : Bool) → ltb place (parts_width ps) ≡ lower → eqb place (parts_width ps) ≡ at → (parts_cut ps place ≡ true → Mixes (parts_fit ps) place) → (part_cut p (place - parts_width ps) ≡ true → Mixes (part_fits p) (place - parts_width ps)) → (if lower then parts_cut ps place else (if at then true else part_cut p (place - parts_width ps))) ≡ true → parts_fit (part p ps) m ≡ true → parts_fit (part p ps) n ≡ true → IsMixed place m n k → parts_fit (part p ps) k ≡ true
+join_mixes : (p : Part) (ps : Parts) (place m n k : ℕ) (lower at : Bool) → ltb place (parts_width ps) ≡ lower → eqb place (parts_width ps) ≡ at
+    → (parts_cut ps place ≡ true → Mixes (parts_fit ps) place) → (part_cut p (place - parts_width ps) ≡ true → Mixes (part_fits p) (place - parts_width ps))
+    → (if lower then parts_cut ps place else (if at then true else part_cut p (place - parts_width ps))) ≡ true → parts_fit (part p ps) m ≡ true
+    → parts_fit (part p ps) n ≡ true → IsMixed place m n k → parts_fit (part p ps) k ≡ true
 join_mixes p ps place m n k true at lower_is at_is below above cut f g mixed =
     let w = parts_width ps in
     let j = w - place in
     let e : j + place ≡ w = omega (arith, ltb-true place w lower_is) in
     let e_turned : place + j ≡ w = omega (arith, ltb-true place w lower_is) in
     let up : k / 2 ^ w ≡ n / 2 ^ w = subst (λ v. k / 2 ^ v ≡ n / 2 ^ v) e_turned (upper_same j place n k mixed.0) in
-    let low : IsMixed place (m % 2 ^ w) (n % 2 ^ w) (k % 2 ^ w) = subst (λ v. IsMixed place (m % 2 ^ v) (n % 2 ^ v) (k % 2 ^ v)) e (mixed_below j place m n k mixed) in
+    let low : IsMixed place (m % 2 ^ w) (n % 2 ^ w) (k % 2 ^ w) =
+    subst (λ v. IsMixed place (m % 2 ^ v) (n % 2 ^ v) (k % 2 ^ v)) e (mixed_below j place m n k mixed) in
     both_true (part_fits p (k / 2 ^ w)) (parts_fit ps (k % 2 ^ w))
     (ap (part_fits p) up ∙ first_true (part_fits p (n / 2 ^ w)) (parts_fit ps (n % 2 ^ w)) g)
-    (below cut (m % 2 ^ w) (n % 2 ^ w) (k % 2 ^ w) (second_true (part_fits p (m / 2 ^ w)) (parts_fit ps (m % 2 ^ w)) f) (second_true (part_fits p (n / 2 ^ w)) (parts_fit ps (n % 2 ^ w)) g) low)
+    (below cut (m % 2 ^ w) (n % 2 ^ w) (k % 2 ^ w) (second_true (part_fits p (m / 2 ^ w)) (parts_fit ps (m % 2 ^ w)) f)
+    (second_true (part_fits p (n / 2 ^ w)) (parts_fit ps (n % 2 ^ w)) g) low)
 join_mixes p ps place m n k false true lower_is at_is below above cut f g mixed =
     let w = parts_width ps in
     let here : place ≡ w = eqb-true place w at_is in
@@ -100,7 +107,8 @@ join_mixes p ps place m n k false false lower_is at_is below above cut f g mixed
     let e : place ≡ j + w = omega (arith, ltb-false place w lower_is) in
     let there : IsMixed (j + w) m n k = subst (λ v. IsMixed v m n k) e mixed in
     both_true (part_fits p (k / 2 ^ w)) (parts_fit ps (k % 2 ^ w))
-    (above cut (m / 2 ^ w) (n / 2 ^ w) (k / 2 ^ w) (first_true (part_fits p (m / 2 ^ w)) (parts_fit ps (m % 2 ^ w)) f) (first_true (part_fits p (n / 2 ^ w)) (parts_fit ps (n % 2 ^ w)) g) (mixed_above j w m n k there))
+    (above cut (m / 2 ^ w) (n / 2 ^ w) (k / 2 ^ w) (first_true (part_fits p (m / 2 ^ w)) (parts_fit ps (m % 2 ^ w)) f)
+    (first_true (part_fits p (n / 2 ^ w)) (parts_fit ps (n % 2 ^ w)) g) (mixed_above j w m n k there))
     (ap (parts_fit ps) (lower_same j w m k there.1) ∙ second_true (part_fits p (m / 2 ^ w)) (parts_fit ps (m % 2 ^ w)) f)
 
 none_mixes : (place m n k : ℕ) → parts_fit no_parts m ≡ true → parts_fit no_parts n ≡ true → IsMixed place m n k → parts_fit no_parts k ≡ true
@@ -122,11 +130,13 @@ mutual
 
   pub parts_mixes : (ps : Parts) (place : ℕ) → parts_cut ps place ≡ true → Mixes (parts_fit ps) place
   parts_mixes no_parts place cut = none_mixes place
-  parts_mixes (part p ps) place cut = λ m n k f g mixed. join_mixes p ps place m n k (ltb place (parts_width ps)) (eqb place (parts_width ps)) refl refl (parts_mixes ps place) (part_mixes p (place - parts_width ps)) cut f g mixed
+  parts_mixes (part p ps) place cut = λ m n k f g mixed. join_mixes p ps place m n k (ltb place (parts_width ps)) (eqb place (parts_width ps)) refl refl
+      (parts_mixes ps place) (part_mixes p (place - parts_width ps)) cut f g mixed
 
   cons_mixes : (cons : Cons) (place : ℕ) → cons_cut cons place ≡ true → Mixes (cons_fit cons) place
   cons_mixes no_cons place cut = λ m n k f g mixed. absurd cc
-  cons_mixes (con ps no_cons) place cut = λ m n k f g mixed. or_none (parts_fit ps k) ∙ parts_mixes ps place cut m n k (sym (or_none (parts_fit ps m)) ∙ f) (sym (or_none (parts_fit ps n)) ∙ g) mixed
+  cons_mixes (con ps no_cons) place cut = λ m n k f g mixed. or_none (parts_fit ps k)
+      ∙ parts_mixes ps place cut m n k (sym (or_none (parts_fit ps m)) ∙ f) (sym (or_none (parts_fit ps n)) ∙ g) mixed
   cons_mixes (con ps (con qs cons)) place cut = absurd cc
 
 in_range : (p bits x : ℕ) → p * 2 ^ bits ≤ x → x < p * 2 ^ bits + 2 ^ bits → x / 2 ^ bits ≡ p
@@ -136,7 +146,9 @@ in_range p bits x above below =
     ap (λ z. z / 2 ^ bits) e ∙ shr_high p bits d (omega arith)
 
 -- where both have numbers in a range that ends at a cut of both, and none in common there, they have none in common
-pub none_at_all : (a b : Parts) (from bits p : ℕ) → from ≡ p * 2 ^ bits → parts_cut a bits ≡ true → parts_cut b bits ≡ true → HasNone (parts_fit a) from (from + 2 ^ bits) false → HasNone (parts_fit b) from (from + 2 ^ bits) false → ((n : ℕ) → from ≤ n → n < from + 2 ^ bits → parts_both a b n ≡ false) → (n : ℕ) → parts_both a b n ≡ false
+pub none_at_all : (a b : Parts) (from bits p : ℕ) → from ≡ p * 2 ^ bits → parts_cut a bits ≡ true → parts_cut b bits ≡ true
+    → HasNone (parts_fit a) from (from + 2 ^ bits) false → HasNone (parts_fit b) from (from + 2 ^ bits) false
+    → ((n : ℕ) → from ≤ n → n < from + 2 ^ bits → parts_both a b n ≡ false) → (n : ℕ) → parts_both a b n ≡ false
 none_at_all a b from bits p e cut_a cut_b has_a has_b none n =
     false_unless (parts_both a b n) (λ both.
     let r = n % 2 ^ bits in

@@ -1,10 +1,12 @@
 -- What counts tell of a search for a number.
-use Rattle.std.proofs.Common.{◌≡◌, ◌≢◌, ℕ, zero, suc, ◌+◌, ◌-◌, ◌*◌, ◌/◌, ◌%◌, ◌^◌, ◌<◌, ◌≤◌, Bool, true, false, not, ◌&&◌, ◌||◌, eqb, ltb, cond, Option, Some, None, refl, ◌∙◌, sym, ap, inl, inr, arith}
+use Rattle.std.proofs.Common.{◌≡◌, ◌≢◌, ℕ, zero, suc, ◌+◌, ◌-◌, ◌*◌, ◌/◌, ◌%◌, ◌^◌, ◌<◌, ◌≤◌, Bool, true, false, not, ◌&&◌, ◌||◌, eqb, ltb, cond, Option, Some}
+use Rattle.std.proofs.Common.{None, refl, ◌∙◌, sym, ap, inl, inr, arith}
 use Rattle.std.proofs.lemmas.Nat.{pow-add, pow_pos, shr_split, mod_below, mul-le}
 use Rattle.std.proofs.lemmas.Bool.{cases_lt, ltb-true, eqb-true}
 use Rattle.ddl_bits.specs.Counts.{tally}
 use Rattle.ddl_bits.specs.Overlaps.{parts_both, HasNone, IsLeastBetween, IsLeastIfAny}
-use Rattle.ddl_bits.specs.Tree.{Part, fixed, any, inner, Parts, no_parts, part, Cons, no_cons, con, cons_width, part_width, parts_width, PartSized, PartsSized, ConsSized, part_fits, parts_fit, cons_fit}
+use Rattle.ddl_bits.specs.Tree.{Part, fixed, any, inner, Parts, no_parts, part, Cons, no_cons, con, cons_width, part_width, parts_width, PartSized, PartsSized}
+use Rattle.ddl_bits.specs.Tree.{ConsSized, part_fits, parts_fit, cons_fit}
 use Rattle.ddl_bits.proofs.Tally.{tally_split}
 
 -- what a count tells
@@ -23,7 +25,8 @@ tally_zero test (suc n) none k h =
           ap test e ∙ none_here (test n) (omega arith)
     ]
 
-some_here : (test : ℕ → Bool) (n : ℕ) (b : Bool) → test n ≡ b → (tally test n ≢ 0 → (k : ℕ) × (k < n) × (test k ≡ true)) → tally test n + cond b 1 0 ≢ 0 → (k : ℕ) × (k < suc n) × (test k ≡ true)
+some_here : (test : ℕ → Bool) (n : ℕ) (b : Bool) → test n ≡ b → (tally test n ≢ 0 → (k : ℕ) × (k < n) × (test k ≡ true)) → tally test n + cond b 1 0 ≢ 0
+    → (k : ℕ) × (k < suc n) × (test k ≡ true)
 some_here test n true is before h = (n, omega arith, is)
 some_here test n false is before h =
     let found = before (λ e. h (omega (arith, e))) in
@@ -35,7 +38,8 @@ tally_some test zero h = absurd (h refl)
 tally_some test (suc n) h = some_here test n (test n) refl (tally_some test n) h
 
 -- the count up to the last number, and whether that passes, tell whether there is one
-pub none_when : (test : ℕ → Bool) (from last to : ℕ) → to ≡ last + 1 → from ≤ last → tally test from ≡ tally test last → (b : Bool) → b ≡ test last → HasNone test from to (not b)
+pub none_when : (test : ℕ → Bool) (from last to : ℕ) → to ≡ last + 1 → from ≤ last → tally test from ≡ tally test last → (b : Bool) → b ≡ test last
+    → HasNone test from to (not b)
 none_when test from last to end order same true is = (last, order, omega arith, sym is)
 none_when test from last to end order same false is =
     λ n above below.
@@ -78,7 +82,8 @@ upper_aligned from b p step h e is =
     omega (arith, e, half, is)
 
 -- none in the lower half, and what is found in the upper
-pub upper_half : (test : ℕ → Bool) (from middle start end to : ℕ) (r : Option ℕ) → middle ≡ start → end ≡ to → ((n : ℕ) → from ≤ n → n < middle → test n ≡ false) → from ≤ middle → IsLeastBetween test start end r → IsLeastBetween test from to r
+pub upper_half : (test : ℕ → Bool) (from middle start end to : ℕ) (r : Option ℕ) → middle ≡ start → end ≡ to
+    → ((n : ℕ) → from ≤ n → n < middle → test n ≡ false) → from ≤ middle → IsLeastBetween test start end r → IsLeastBetween test from to r
 upper_half test from middle start end to None e f none order found =
     λ n above below.
     elim (cases_lt n middle) [
@@ -126,7 +131,8 @@ mutual
 
   pub parts_within : (ps : Parts) → PartsSized ps → (n : ℕ) → parts_fit ps n ≡ true → n < 2 ^ parts_width ps
   parts_within no_parts h n fits = omega (arith, eqb-true n 0 fits)
-  parts_within (part p ps) h n fits = joined_below n (part_width p) (parts_width ps) (part_within p h.0 (n / 2 ^ parts_width ps) (first_true (part_fits p (n / 2 ^ parts_width ps)) (parts_fit ps (n % 2 ^ parts_width ps)) fits))
+  parts_within (part p ps) h n fits = joined_below n (part_width p) (parts_width ps)
+      (part_within p h.0 (n / 2 ^ parts_width ps) (first_true (part_fits p (n / 2 ^ parts_width ps)) (parts_fit ps (n % 2 ^ parts_width ps)) fits))
 
   pub cons_within : (cons : Cons) (width : ℕ) → ConsSized cons width → (n : ℕ) → cons_fit cons n ≡ true → n < 2 ^ width
   cons_within no_cons width h n fits = absurd cc
@@ -147,7 +153,8 @@ second_false true b h = h
 second_false false b h = refl
 
 -- a search below 2 ^ width is one among all numbers
-pub whole_search : (a b : Parts) (width to : ℕ) (r : Option ℕ) → to ≡ 2 ^ width → parts_width a ≡ width → PartsSized a → IsLeastBetween (parts_both a b) 0 to r → IsLeastIfAny (parts_both a b) r
+pub whole_search : (a b : Parts) (width to : ℕ) (r : Option ℕ) → to ≡ 2 ^ width → parts_width a ≡ width → PartsSized a → IsLeastBetween (parts_both a b) 0 to r
+    → IsLeastIfAny (parts_both a b) r
 whole_search a b width to None e w sized found =
     let same : 2 ^ parts_width a ≡ 2 ^ width = ap (λ n. 2 ^ n) w in
     λ n.

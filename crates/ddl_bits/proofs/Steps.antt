@@ -1,5 +1,6 @@
 -- One step over the parts of a constructor, or over the constructors of a layout.
-use Rattle.std.proofs.Common.{◌≡◌, ℕ, ◌+◌, ◌-◌, ◌*◌, ◌/◌, ◌%◌, ◌^◌, ◌<◌, ◌≤◌, Bool, true, false, eqb, ltb, List, [], ◌∷◌, length, get_or, drop, bit_and, Option, Some, None, if◌then◌else◌, min, ap, subst, sym, ◌∙◌, refl, inl, inr, arith}
+use Rattle.std.proofs.Common.{◌≡◌, ℕ, ◌+◌, ◌-◌, ◌*◌, ◌/◌, ◌%◌, ◌^◌, ◌<◌, ◌≤◌, Bool, true, false, eqb, ltb, List, [], ◌∷◌, length, get_or, drop, bit_and, Option}
+use Rattle.std.proofs.Common.{Some, None, if◌then◌else◌, min, ap, subst, sym, ◌∙◌, refl, inl, inr, arith}
 use Rattle.std.proofs.Math.Nat.{div-eq_of_lt}
 use Rattle.std.proofs.lemmas.List.{at_drop_more}
 use Rattle.std.proofs.lemmas.Nat.{pow_pos, shr_split, mod_below, one_shl, and_mask}
@@ -7,14 +8,17 @@ use Rattle.std.proofs.lemmas.Bool.{cases_lt, lt-ltb, le-ltb, eq-eqb, ne_eqb, ltb
 use Rattle.ddl_bits.specs.declared.layout.LayoutCon.{LayoutCon}
 use Rattle.ddl_bits.specs.declared.layout.LayoutPart.{LayoutPart}
 use Rattle.ddl_bits.specs.Cuts.{cons_cut}
-use Rattle.ddl_bits.specs.Tree.{Part, fixed, any, inner, Parts, part, Cons, no_cons, con, cons_width, too_wide_from, other_width_from, part_width, parts_width, PartSized, PartsSized, ConsSized}
+use Rattle.ddl_bits.specs.Tree.{Part, fixed, any, inner, Parts, part, Cons, no_cons, con, cons_width, too_wide_from, other_width_from, part_width, parts_width}
+use Rattle.ddl_bits.specs.Tree.{PartSized, PartsSized, ConsSized}
 use Rattle.ddl_bits.specs.View.{part_view, con_view, parts_view, cons_view}
 use Rattle.ddl_bits.specs.Widths.{width_unless_other, width_unless_too_wide, one_width_of}
 
-pub at_part : (xs : List LayoutPart) (i : ℕ) (x : LayoutPart) → i < length xs → x ≡ get_or xs i x → parts_view (drop i xs) ≡ part (part_view x) (parts_view (drop (i + 1) xs))
+pub at_part : (xs : List LayoutPart) (i : ℕ) (x : LayoutPart) → i < length xs → x ≡ get_or xs i x
+    → parts_view (drop i xs) ≡ part (part_view x) (parts_view (drop (i + 1) xs))
 at_part xs i x h is = at_drop_more parts_view xs i x h ∙ ap (λ y. part (part_view y) (parts_view (drop (i + 1) xs))) (sym is)
 
-pub at_con : (xs : List LayoutCon) (i : ℕ) (x : LayoutCon) → i < length xs → x ≡ get_or xs i x → cons_view (drop i xs) ≡ con (con_view x) (cons_view (drop (i + 1) xs))
+pub at_con : (xs : List LayoutCon) (i : ℕ) (x : LayoutCon) → i < length xs → x ≡ get_or xs i x
+    → cons_view (drop i xs) ≡ con (con_view x) (cons_view (drop (i + 1) xs))
 at_con xs i x h is = at_drop_more cons_view xs i x h ∙ ap (λ y. con (con_view y) (cons_view (drop (i + 1) xs))) (sym is)
 
 pub has_a_bit : (p : Part) → PartSized p → 1 ≤ part_width p
@@ -46,19 +50,32 @@ pub record PartStep (p : Part) (rest : Parts) (bits left : ℕ) : Type 0 where
   pub after : parts_width rest ≡ left - bits
   pub below : left - bits < 128
 
-pub part_step : (p : Part) (rest : Parts) (bits left : ℕ) → PartSized p → PartsSized rest → part_width p + parts_width rest ≡ left → left ≤ 128 → bits ≡ min (part_width p) 129 → PartStep p rest bits left
+pub part_step : (p : Part) (rest : Parts) (bits left : ℕ) → PartSized p → PartsSized rest → part_width p + parts_width rest ≡ left → left ≤ 128
+    → bits ≡ min (part_width p) 129 → PartStep p rest bits left
 part_step p rest bits left sized rest_sized width few is =
     let one = has_a_bit p sized in
-    record { sized = sized; rest_sized = rest_sized; width = omega arith; bits_are = omega arith; enough = omega arith; after = omega arith; below = omega arith }
+    record {
+      sized = sized;
+      rest_sized = rest_sized;
+      width = omega arith;
+      bits_are = omega arith;
+      enough = omega arith;
+      after = omega arith;
+      below =
+          omega arith;
+    }
 
-pub part_step_at : (xs : List LayoutPart) (i : ℕ) (x : LayoutPart) (bits left : ℕ) → i < length xs → x ≡ get_or xs i x → PartsSized (parts_view (drop i xs)) → parts_width (parts_view (drop i xs)) ≡ left → left ≤ 128 → bits ≡ min (part_width (part_view x)) 129 → PartStep (part_view x) (parts_view (drop (i + 1) xs)) bits left
+pub part_step_at : (xs : List LayoutPart) (i : ℕ) (x : LayoutPart) (bits left : ℕ) → i < length xs → x ≡ get_or xs i x → PartsSized (parts_view (drop i xs))
+    → parts_width (parts_view (drop i xs)) ≡ left → left ≤ 128 → bits ≡ min (part_width (part_view x)) 129
+    → PartStep (part_view x) (parts_view (drop (i + 1) xs)) bits left
 part_step_at xs i x bits left h is sized width few bits_are =
     let e = at_part xs i x h is in
     let parts_sized : PartsSized (part (part_view x) (parts_view (drop (i + 1) xs))) = subst PartsSized e sized in
     part_step (part_view x) (parts_view (drop (i + 1) xs)) bits left parts_sized.0 parts_sized.1 (sym (ap parts_width e) ∙ width) few bits_are
 
 -- what is known of a constructor and of those after it
-pub con_step_at : (xs : List LayoutCon) (i : ℕ) (x : LayoutCon) (width : ℕ) → i < length xs → x ≡ get_or xs i x → ConsSized (cons_view (drop i xs)) width → (parts_width (con_view x) ≡ width) × PartsSized (con_view x) × ConsSized (cons_view (drop (i + 1) xs)) width
+pub con_step_at : (xs : List LayoutCon) (i : ℕ) (x : LayoutCon) (width : ℕ) → i < length xs → x ≡ get_or xs i x → ConsSized (cons_view (drop i xs)) width
+    → (parts_width (con_view x) ≡ width) × PartsSized (con_view x) × ConsSized (cons_view (drop (i + 1) xs)) width
 con_step_at xs i x width h is sized =
     let P : Cons → Type 0 = λ cs. ConsSized cs width in
     subst P (at_con xs i x h is) sized
@@ -73,7 +90,8 @@ few_bits k no_cons none = omega arith
 few_bits k (con ps cons) none = too_wide_none k (parts_width ps) (too_wide_from (k + 1) cons) _ refl none
 
 -- the verdict on widths, from what is found of a layout
-pub one_width_found : (cons : Cons) (width : ℕ) (other : Option ℕ) → too_wide_from 0 cons ≡ None → width ≡ min (cons_width cons) 129 → other ≡ other_width_from width 0 cons → width_unless_other width other ≡ one_width_of cons
+pub one_width_found : (cons : Cons) (width : ℕ) (other : Option ℕ) → too_wide_from 0 cons ≡ None → width ≡ min (cons_width cons) 129
+    → other ≡ other_width_from width 0 cons → width_unless_other width other ≡ one_width_of cons
 one_width_found cons width other none is found =
     let few = few_bits 0 cons none in
     let e : width ≡ cons_width cons = omega arith in

@@ -79,7 +79,8 @@ tally_product upper lower (suc a) b h =
     ap (tally test) e ∙ tally_split test (a * b) b ∙ omega (arith, before, last)
 
 -- how many numbers fit parts: as many as fit the first, times as many as fit the others
-pub tally_parts : (p : Part) (ps : Parts) → tally (parts_fit (part p ps)) (2 ^ (part_width p + parts_width ps)) ≡ tally (part_fits p) (2 ^ part_width p) * tally (parts_fit ps) (2 ^ parts_width ps)
+pub tally_parts : (p : Part) (ps : Parts) → tally (parts_fit (part p ps)) (2 ^ (part_width p + parts_width ps)) ≡ tally (part_fits p) (2 ^ part_width p)
+    * tally (parts_fit ps) (2 ^ parts_width ps)
 tally_parts p ps =
     ap (tally (parts_fit (part p ps))) (pow-add 2 (part_width p) (parts_width ps))
     ∙ tally_product (part_fits p) (parts_fit ps) (2 ^ part_width p) (2 ^ parts_width ps) (pow_pos (parts_width ps))

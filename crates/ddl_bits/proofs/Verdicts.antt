@@ -11,7 +11,8 @@ none_other : (w width : ℕ) (other : Option ℕ) → width_unless_other w other
 none_other w width (Some place) e = absurd cc
 none_other w width None e = (refl, (cc))
 
-pub none_wide : (cons : Cons) (width : ℕ) (wide : Option ℕ) → too_wide_from 0 cons ≡ wide → width_unless_too_wide cons wide ≡ Ok width → (cons_width cons ≤ 128) × (other_width_from (cons_width cons) 0 cons ≡ None) × (cons_width cons ≡ width)
+pub none_wide : (cons : Cons) (width : ℕ) (wide : Option ℕ) → too_wide_from 0 cons ≡ wide → width_unless_too_wide cons wide ≡ Ok width
+    → (cons_width cons ≤ 128) × (other_width_from (cons_width cons) 0 cons ≡ None) × (cons_width cons ≡ width)
 none_wide cons width (Some place) is e = absurd cc
 none_wide cons width None is e =
     let other = none_other (cons_width cons) width (other_width_from (cons_width cons) 0 cons) e in

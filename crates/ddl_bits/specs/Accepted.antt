@@ -30,7 +30,12 @@ mutual
   PartAccepted-prop : (p : Part) → IsProp (PartAccepted p)
   PartAccepted-prop (fixed bits width) = le_prop
   PartAccepted-prop (any width) = le_prop
-  PartAccepted-prop (inner cons) = λ a b i. (le_prop a.0 b.0 i, le_prop a.1 b.1 i, IsUnambiguous-prop cons a.2 b.2 i, ConsAccepted-prop cons (cons_width cons) a.3 b.3 i)
+  PartAccepted-prop (inner cons) = λ a b i. (
+    le_prop a.0 b.0 i,
+    le_prop a.1 b.1 i,
+    IsUnambiguous-prop cons a.2 b.2 i,
+    ConsAccepted-prop cons (cons_width cons) a.3 b.3 i,
+  )
 
   PartsAccepted-prop : (ps : Parts) → IsProp (PartsAccepted ps)
   PartsAccepted-prop no_parts = Unit-prop
@@ -38,7 +43,11 @@ mutual
 
   ConsAccepted-prop : (cons : Cons) (width : ℕ) → IsProp (ConsAccepted cons width)
   ConsAccepted-prop no_cons width = Unit-prop
-  ConsAccepted-prop (con ps cons) width = λ a b i. (Coded-set coded_ℕ (parts_width ps) width a.0 b.0 i, PartsAccepted-prop ps a.1 b.1 i, ConsAccepted-prop cons width a.2 b.2 i)
+  ConsAccepted-prop (con ps cons) width = λ a b i. (
+    Coded-set coded_ℕ (parts_width ps) width a.0 b.0 i,
+    PartsAccepted-prop ps a.1 b.1 i,
+    ConsAccepted-prop cons width a.2 b.2 i,
+  )
 
 -- a fact with one proof, so that a type may keep it
 pub IsAccepted-prop : (cons : Cons) (width : ℕ) → IsProp (IsAccepted cons width)

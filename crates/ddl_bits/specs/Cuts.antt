@@ -16,7 +16,8 @@ abbrev mutual
 
   pub parts_cut : Parts → ℕ → Bool
   parts_cut no_parts place = true
-  parts_cut (part p ps) place = if nat_lt place (parts_width ps) then parts_cut ps place else (if place == parts_width ps then true else part_cut p (place - parts_width ps))
+  parts_cut (part p ps) place = if nat_lt place (parts_width ps) then parts_cut ps place else
+      (if place == parts_width ps then true else part_cut p (place - parts_width ps))
 
   pub cons_cut : Cons → ℕ → Bool
   cons_cut no_cons place = true
@@ -25,5 +26,7 @@ abbrev mutual
 -- ---- worked
 
 -- { _ : uint 2, x : { a = 0b00; b = 0b11 } } is cut above x and in the bits before it, and not in x
-cut_above : (parts_cut (part (any 2) (part (inner (con (part (fixed 0 2) no_parts) (con (part (fixed 3 2) no_parts) no_cons))) no_parts)) 3 ≡ true) × (parts_cut (part (any 2) (part (inner (con (part (fixed 0 2) no_parts) (con (part (fixed 3 2) no_parts) no_cons))) no_parts)) 2 ≡ true) × (parts_cut (part (any 2) (part (inner (con (part (fixed 0 2) no_parts) (con (part (fixed 3 2) no_parts) no_cons))) no_parts)) 1 ≡ false)
+cut_above : (parts_cut (part (any 2) (part (inner (con (part (fixed 0 2) no_parts) (con (part (fixed 3 2) no_parts) no_cons))) no_parts)) 3 ≡ true)
+    × (parts_cut (part (any 2) (part (inner (con (part (fixed 0 2) no_parts) (con (part (fixed 3 2) no_parts) no_cons))) no_parts)) 2 ≡ true)
+    × (parts_cut (part (any 2) (part (inner (con (part (fixed 0 2) no_parts) (con (part (fixed 3 2) no_parts) no_cons))) no_parts)) 1 ≡ false)
 cut_above = (refl, refl, refl)

@@ -21,5 +21,6 @@ differ None b = false
 -- ---- worked
 
 -- { 0b10, _ : uint 1 }
-three_bits : (parts_bit (part (fixed 2 2) (part (any 1) no_parts)) 0 ≡ None) × (parts_bit (part (fixed 2 2) (part (any 1) no_parts)) 1 ≡ Some 0) × (parts_bit (part (fixed 2 2) (part (any 1) no_parts)) 2 ≡ Some 1)
+three_bits : (parts_bit (part (fixed 2 2) (part (any 1) no_parts)) 0 ≡ None) × (parts_bit (part (fixed 2 2) (part (any 1) no_parts)) 1 ≡ Some 0)
+    × (parts_bit (part (fixed 2 2) (part (any 1) no_parts)) 2 ≡ Some 1)
 three_bits = (refl, refl, refl)

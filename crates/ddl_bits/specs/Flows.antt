@@ -1,5 +1,6 @@
 -- How a number that is read from its highest bit on goes through the leaves of a constructor: the parts that hold no layout.
-use Rattle.std.specs.Prelude.{◌≡◌, ℕ, ◌+◌, ◌/◌, ◌%◌, ◌^◌, ◌<◌, ◌≤◌, Bool, true, false, ◌||◌, ◌⊎◌, nat_lt, if◌then◌else◌, List, take, drop, Option, Some, None, slice_index_or, refl}
+use Rattle.std.specs.Prelude.{◌≡◌, ℕ, ◌+◌, ◌/◌, ◌%◌, ◌^◌, ◌<◌, ◌≤◌, Bool, true, false, ◌||◌, ◌⊎◌, nat_lt, if◌then◌else◌, List, take, drop, Option, Some, None}
+use Rattle.std.specs.Prelude.{slice_index_or, refl}
 use Rattle.ddl_bits.specs.declared.ranges.Range.{Range}
 use Rattle.ddl_bits.specs.declared.stepping.Bit.{Bit}
 use Rattle.ddl_bits.specs.FixedBits.{part_bit, differ}
@@ -72,7 +73,8 @@ HasBit bit n = ((b : ℕ) → bit.given ≡ Some b → n / 2 ^ bit.place % 2 ≡
 -- one bit is read: each number that has it, and ran with the old marks, runs with the new ones a bit further. Where this begins there,
 -- `entered` is to hold; where it ends there, `done` does
 abbrev pub IsStep : (List Bool → ℕ → ℕ → Type 0) → ℕ → ℕ → Bit → Bool → List Bool → List Bool → Bool → Type 0
-IsStep runs low width bit entered old new done = (n : ℕ) → HasBit bit n → runs old (bit.place + 1) n → (bit.place ≡ low + width → entered ≡ true) → runs new bit.place n × (bit.place ≡ low → done ≡ true)
+IsStep runs low width bit entered old new done = (n : ℕ) → HasBit bit n → runs old (bit.place + 1) n → (bit.place ≡ low + width → entered ≡ true)
+    → runs new bit.place n × (bit.place ≡ low → done ≡ true)
 
 -- n runs by all of a constructor: the mark behind those of its leaves stands where it is read to its end
 abbrev pub RunsWhole : Parts → List Bool → ℕ → ℕ → Type 0

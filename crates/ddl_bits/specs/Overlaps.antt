@@ -65,5 +65,6 @@ left_out cons n = not (cons_fit cons n)
 -- ---- worked
 
 -- a = { 0b0, _ : uint 1 }; b = 0b00: both have the number 0, and 1 fits a alone
-shared_number : (fits_both (con (part (fixed 0 1) (part (any 1) no_parts)) (con (part (fixed 0 2) no_parts) no_cons)) 0 1 0 ≡ true) × (fits_both (con (part (fixed 0 1) (part (any 1) no_parts)) (con (part (fixed 0 2) no_parts) no_cons)) 0 1 1 ≡ false)
+shared_number : (fits_both (con (part (fixed 0 1) (part (any 1) no_parts)) (con (part (fixed 0 2) no_parts) no_cons)) 0 1 0 ≡ true)
+    × (fits_both (con (part (fixed 0 1) (part (any 1) no_parts)) (con (part (fixed 0 2) no_parts) no_cons)) 0 1 1 ≡ false)
 shared_number = (refl, refl)

@@ -1,4 +1,5 @@
-ghost use Rattle.ddl_bits.specs.Tree.{cons_width, cons_fit, parts_fit, parts_width, part_fits, part_width, place_of, ConsSized, PartSized, PartsSized};
+ghost use Rattle.ddl_bits.specs.Tree.{cons_width, cons_fit, parts_fit, parts_width, part_fits, part_width, place_of};
+ghost use Rattle.ddl_bits.specs.Tree.{ConsSized, PartSized, PartsSized};
 ghost use Rattle.ddl_bits.specs.View.{layout_view, con_view, cons_view, part_view, parts_view};
 ghost use Rattle.std.specs.Prelude.{◌≡◌, ◌≤◌, ◌^◌, nat_lt};
 

@@ -28,7 +28,8 @@ fn part_flow(
     requires other_sized { PartsSized (parts_view other.now) }
     requires other_within { parts_width (parts_view other.now) ≤ 128 }
     requires marked { length marks.old ≡ parts_leaves (parts_view other.now) + 1 }
-    ensures { OnOk result (IsFlow (ReadsPart (part_view part.now) low) low (part_width (part_view part.now)) (parts_view other.now) range marks.old marks.new) }
+    ensures { OnOk result (IsFlow (ReadsPart (part_view part.now) low) low (part_width (part_view part.now))
+        (parts_view other.now) range marks.old marks.new) }
 {
     match part {
         LayoutPart::Fixed { .. } | LayoutPart::Any { .. } => {
@@ -55,7 +56,8 @@ pub(crate) fn parts_flow(
     requires other_sized { PartsSized (parts_view other.now) }
     requires other_within { parts_width (parts_view other.now) ≤ 128 }
     requires marked { length marks.old ≡ parts_leaves (parts_view other.now) + 1 }
-    ensures { OnOk result (IsFlow (ReadsParts (parts_view parts.now) low) low (parts_width (parts_view parts.now)) (parts_view other.now) range marks.old marks.new) }
+    ensures { OnOk result (IsFlow (ReadsParts (parts_view parts.now) low) low (parts_width (parts_view parts.now))
+        (parts_view other.now) range marks.old marks.new) }
 {
     let mut left = parts_bits(parts);
     for part in parts {
@@ -82,7 +84,8 @@ fn layout_flow(
     requires other_sized { PartsSized (parts_view other.now) }
     requires other_within { parts_width (parts_view other.now) ≤ 128 }
     requires marked { length marks.old ≡ parts_leaves (parts_view other.now) + 1 }
-    ensures { OnOk result (IsFlow (ReadsCons (layout_view layout.now) low) low (cons_width (layout_view layout.now)) (parts_view other.now) range marks.old marks.new) }
+    ensures { OnOk result (IsFlow (ReadsCons (layout_view layout.now) low) low (cons_width (layout_view layout.now))
+        (parts_view other.now) range marks.old marks.new) }
 {
     let before = copied(alloc, marks)?;
     marks.fill(false);
@@ -100,7 +103,8 @@ fn leaf_flow(leaf: &LayoutPart, low: u32, other: &[LayoutPart], range: Range, ma
     requires other_sized { PartsSized (parts_view other.now) }
     requires other_within { parts_width (parts_view other.now) ≤ 128 }
     requires marked { length marks.old ≡ parts_leaves (parts_view other.now) + 1 }
-    ensures { IsFlow (HasLeaf (part_view leaf.now) low) low (part_width (part_view leaf.now)) (parts_view other.now) range marks.old marks.new }
+    ensures { IsFlow (HasLeaf (part_view leaf.now) low) low (part_width (part_view leaf.now)) (parts_view other.now)
+        range marks.old marks.new }
 {
     if !is_possible(leaf) {
         marks.fill(false);

@@ -13,7 +13,8 @@ pub(crate) fn copied(alloc: Global, marks: &[bool]) -> Result<Vec<bool>, NoMemor
 /// Sets each mark that stands in the other list.
 pub(crate) fn add_marks(marks: &mut [bool], other: &[bool])
     requires { length marks.old ≡ length other.now }
-    ensures { (i : ℕ) → slice_index_or marks.new i false ≡ (slice_index_or marks.old i false || slice_index_or other.now i false) }
+    ensures { (i : ℕ) → slice_index_or marks.new i false
+        ≡ (slice_index_or marks.old i false || slice_index_or other.now i false) }
 {
     for place in 0..marks.len() {
         marks[place] = marks[place] || other[place];

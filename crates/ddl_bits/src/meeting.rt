@@ -27,7 +27,8 @@ pub(crate) fn may_share(
     requires one_width { parts_width (parts_view a.now) ≡ parts_width (parts_view b.now) }
     requires at_most_128 { parts_width (parts_view b.now) ≤ 128 }
     requires aligned { (p : ℕ) × (from ≡ p * 2 ^ bits) }
-    ensures { result ≡ false → IsLeastBetween (parts_both (parts_view a.now) (parts_view b.now)) from (from + 2 ^ bits) None }
+    ensures { result ≡ false → IsLeastBetween (parts_both (parts_view a.now) (parts_view b.now)) from (from + 2 ^ bits)
+        None }
 {
     match can_be_read_by_both(alloc, a, b, Range { from, bits }) {
         Ok(can) => can,
@@ -46,7 +47,8 @@ fn can_be_read_by_both(
     requires b_sized { PartsSized (parts_view b.now) }
     requires one_width { parts_width (parts_view a.now) ≡ parts_width (parts_view b.now) }
     requires at_most_128 { parts_width (parts_view b.now) ≤ 128 }
-    ensures { IfOk result (λ can. can ≡ false → (n : ℕ) → IsIn range.from range.bits n → ReadsParts (parts_view a.now) 0 n → ReadsParts (parts_view b.now) 0 n → ⊥) }
+    ensures { IfOk result (λ can. can ≡ false → (n : ℕ) → IsIn range.from range.bits n
+        → ReadsParts (parts_view a.now) 0 n → ReadsParts (parts_view b.now) 0 n → ⊥) }
 {
     let mut marks = first_marks(alloc, b)?;
     parts_flow(alloc, a, 0, b, range, &mut marks)?;
@@ -58,7 +60,8 @@ fn first_marks(alloc: Global, parts: &[LayoutPart]) -> Result<Vec<bool>, NoMemor
     requires sized { PartsSized (parts_view parts.now) }
     requires within { parts_width (parts_view parts.now) ≤ 128 }
     ensures size { IfOk result (λ marks. length marks.items ≡ parts_leaves (parts_view parts.now) + 1) }
-    ensures start { IfOk result (λ marks. (n : ℕ) → ReadsParts (parts_view parts.now) 0 n → RunsWhole (parts_view parts.now) marks.items (parts_width (parts_view parts.now)) n) }
+    ensures start { IfOk result (λ marks. (n : ℕ) → ReadsParts (parts_view parts.now) 0 n
+        → RunsWhole (parts_view parts.now) marks.items (parts_width (parts_view parts.now)) n) }
 {
     let size = parts_leaves(parts).checked_add(1).ok_or(NoMemory)?;
     let mut marks = vec![in alloc; false; size]?;

@@ -1,5 +1,6 @@
 ghost use Rattle.ddl_bits.specs.Accepted.{ConsAccepted, PartsAccepted};
-ghost use Rattle.ddl_bits.specs.Overlaps.{parts_both, HasNoneWith, HasNoOverlap, IsFirstOverlap, IsFirstWith, IsLeastIfAny};
+ghost use Rattle.ddl_bits.specs.Overlaps.{parts_both, HasNoneWith, HasNoOverlap, IsFirstOverlap, IsFirstWith};
+ghost use Rattle.ddl_bits.specs.Overlaps.{IsLeastIfAny};
 ghost use Rattle.ddl_bits.specs.Tree.{parts_width};
 ghost use Rattle.ddl_bits.specs.View.{con_view, cons_view};
 ghost use Rattle.std.specs.Prelude.{◌≡◌, ◌<◌, ◌≤◌, length, MatchOption};
@@ -20,7 +21,8 @@ pub(crate) struct Shared {
 pub(crate) fn first_overlap(alloc: Global, cons: &[LayoutCon], width: u32) -> Option<Shared>
     requires accepted { ConsAccepted (cons_view cons.now) width }
     requires at_most_128 { width ≤ 128 }
-    ensures { MatchOption result (HasNoOverlap (cons_view cons.now)) (λ o. IsFirstOverlap (cons_view cons.now) o.first o.second o.number) }
+    ensures { MatchOption result (HasNoOverlap (cons_view cons.now)) (λ o.
+        IsFirstOverlap (cons_view cons.now) o.first o.second o.number) }
 {
     for first in 0..cons.len() {
         if let Some(shared) = overlap_with(alloc, cons, width, first) {
@@ -35,7 +37,8 @@ fn overlap_with(alloc: Global, cons: &[LayoutCon], width: u32, first: usize) -> 
     requires accepted { ConsAccepted (cons_view cons.now) width }
     requires at_most_128 { width ≤ 128 }
     requires inside { first < length cons.now }
-    ensures { MatchOption result (HasNoneWith (cons_view cons.now) first) (λ o. (o.first ≡ first) × IsFirstWith (cons_view cons.now) first o.second o.number) }
+    ensures { MatchOption result (HasNoneWith (cons_view cons.now) first) (λ o. (o.first ≡ first)
+        × IsFirstWith (cons_view cons.now) first o.second o.number) }
 {
     for second in first + 1..cons.len() {
         if let Some(number) = cons_common(alloc, &cons[first], &cons[second], width) {

@@ -1,4 +1,5 @@
-ghost use Rattle.ddl_bits.specs.Flows.{cons_leaves, is_possible, part_leaves, parts_leaves, some_differ, HasBit, HasLeaf, IsStep, RunsCons, RunsLeaf, RunsPart, RunsParts, RunsWhole};
+ghost use Rattle.ddl_bits.specs.Flows.{cons_leaves, is_possible, part_leaves, parts_leaves, some_differ, HasBit};
+ghost use Rattle.ddl_bits.specs.Flows.{HasLeaf, IsStep, RunsCons, RunsLeaf, RunsPart, RunsParts, RunsWhole};
 ghost use Rattle.ddl_bits.specs.Tree.{part_width, parts_width, ConsSized, PartSized, PartsSized};
 ghost use Rattle.ddl_bits.specs.View.{layout_view, part_view, parts_view};
 ghost use Rattle.std.specs.Prelude.{◌≡◌, ℕ, ◌+◌, ◌<◌, ◌≤◌, true, length};
@@ -33,7 +34,8 @@ fn part_step(part: &LayoutPart, low: u32, marks: &mut [bool], bit: Bit, entered:
     requires sized { PartSized (part_view part.now) }
     requires within { low + part_width (part_view part.now) ≤ 128 }
     requires marked { length marks.old ≡ part_leaves (part_view part.now) }
-    ensures { IsStep (RunsPart (part_view part.now) low) low (part_width (part_view part.now)) bit entered marks.old marks.new result }
+    ensures { IsStep (RunsPart (part_view part.now) low) low (part_width (part_view part.now)) bit entered marks.old
+        marks.new result }
 {
     match part {
         LayoutPart::Fixed { .. } | LayoutPart::Any { .. } => {
@@ -105,7 +107,8 @@ pub(crate) fn whole_step(parts: &[LayoutPart], marks: &mut [bool], bit: Bit)
     requires sized { PartsSized (parts_view parts.now) }
     requires within { parts_width (parts_view parts.now) ≤ 128 }
     requires marked { length marks.old ≡ parts_leaves (parts_view parts.now) + 1 }
-    ensures { (n : ℕ) → HasBit bit n → RunsWhole (parts_view parts.now) marks.old (bit.place + 1) n → RunsWhole (parts_view parts.now) marks.new bit.place n }
+    ensures { (n : ℕ) → HasBit bit n → RunsWhole (parts_view parts.now) marks.old (bit.place + 1) n
+        → RunsWhole (parts_view parts.now) marks.new bit.place n }
 {
     let width = parts_bits(parts);
     let last = marks.len() - 1;
@@ -119,7 +122,8 @@ fn leaf_step(leaf: &LayoutPart, low: u32, marks: &mut [bool], bit: Bit, entered:
     requires sized { PartSized (part_view leaf.now) }
     requires within { low + part_width (part_view leaf.now) ≤ 128 }
     requires marked { 1 ≤ length marks.old }
-    ensures { IsStep (RunsLeaf (part_view leaf.now) low) low (part_width (part_view leaf.now)) bit entered marks.old marks.new result }
+    ensures { IsStep (RunsLeaf (part_view leaf.now) low) low (part_width (part_view leaf.now)) bit entered marks.old
+        marks.new result }
 {
     if bit.place == low + part_bits(leaf) {
         marks[0] = entered;
@@ -133,7 +137,8 @@ fn leaf_step(leaf: &LayoutPart, low: u32, marks: &mut [bool], bit: Bit, entered:
 /// Whether a bit that is read may be one of a leaf.
 fn goes_on(leaf: &LayoutPart, low: u32, bit: Bit) -> bool
     requires { low + part_width (part_view leaf.now) ≤ 128 }
-    ensures { (n : ℕ) → HasBit bit n → HasLeaf (part_view leaf.now) low n → low ≤ bit.place → bit.place < low + part_width (part_view leaf.now) → result ≡ true }
+    ensures { (n : ℕ) → HasBit bit n → HasLeaf (part_view leaf.now) low n → low ≤ bit.place
+        → bit.place < low + part_width (part_view leaf.now) → result ≡ true }
 {
     let is_inside = low <= bit.place && bit.place < low + part_bits(leaf);
     is_inside

@@ -46,7 +46,8 @@ use Rattle.ddl_ops.specs.ByteSets.{class_byte}
 use Rattle.ddl_ops.specs.Patterns.{Matched, has_it, has_another, has_none, matched, outcome_at}
 use Rattle.ddl_core.specs.Core.{Operation}
 use Rattle.ddl_core.specs.Core as c
-use Rattle.ddl_core.specs.Operations.{applied, named_fields, with_elements, elements_count, position_of, element_there, key_there, gathered_as, pair_at, pair_key_at}
+use Rattle.ddl_core.specs.Operations.{applied, named_fields, with_elements, elements_count, position_of, element_there, key_there, gathered_as, pair_at}
+use Rattle.ddl_core.specs.Operations.{pair_key_at}
 use Rattle.ddl_blocks.specs.Failing.{primitive_fails, may_fail, faults_of, faults_at, IsAmong, May, ComesTo}
 
 -- of what a value form gives
@@ -101,7 +102,8 @@ module _ (fs : List Fault) (span : Span) where
   inserted_calm : (k v : Value) (ps : Pairs) → Calm fs span (inserted k v ps)
   inserted_calm k v no_pairs = tt
   inserted_calm k v (pair other w ps) =
-      order_calm (key_order k other) (gives (pair k v (pair other w ps))) (gives (pair k v ps)) (then_value (inserted k v ps) (λ qs. gives (pair other w qs))) tt tt
+      order_calm (key_order k other) (gives (pair k v (pair other w ps))) (gives (pair k v ps)) (then_value (inserted k v ps) (λ qs. gives (pair other w qs)))
+      tt tt
       (then_calm (inserted k v ps) (λ qs. gives (pair other w qs)) (inserted_calm k v ps) (λ qs. tt))
 
   joined_calm : (vs : Values) → Calm fs span (elements_joined vs)
@@ -120,11 +122,13 @@ module _ (fs : List Fault) (span : Span) where
 
   builtin_calm : (b : Builtin) (vs : Values) → Calm fs span (builtin_value b vs)
   builtin_calm B.Length (value (array vs) no_values) = tt
-  builtin_calm B.Concat (value (array vss) no_values) = then_calm (elements_joined vss) (λ vs. counted vs (gives (array vs))) (joined_calm vss) (λ vs. counted_calm vs (gives (array vs)) tt)
+  builtin_calm B.Concat (value (array vss) no_values) = then_calm (elements_joined vss) (λ vs. counted vs (gives (array vs))) (joined_calm vss) (λ vs.
+      counted_calm vs (gives (array vs)) tt)
   builtin_calm B.ArrayStream (value (array vs) no_values) = then_calm (bytes_of vs) (λ bs. gives (stream (stream_of bs))) (bytes_calm vs) (λ bs. tt)
   builtin_calm B.BytesOfStream (value (stream s) no_values) = let vs = byte_values (bytes_in s) in counted_calm vs (gives (array vs)) tt
   builtin_calm B.Empty no_values = tt
-  builtin_calm B.InsertInto (value k (value v (value (mapping ps) no_values))) = then_calm (inserted k v ps) (λ qs. gives (mapping qs)) (inserted_calm k v ps) (λ qs. tt)
+  builtin_calm B.InsertInto (value k (value v (value (mapping ps) no_values))) =
+      then_calm (inserted k v ps) (λ qs. gives (mapping qs)) (inserted_calm k v ps) (λ qs. tt)
   builtin_calm B.LookupIn (value k (value (mapping ps) no_values)) = then_calm (found k ps) (λ w. gives (maybe_value w)) (found_calm k ps) (λ w. tt)
   builtin_calm b vs = tt
 
@@ -214,7 +218,10 @@ module _ (fs : List Fault) (span : Span) where
   end_may s = if_may true (has_byte s) _ _ (refl, refl) refl
 
   class_may : (test : ℕ → Bool) (s : Stream) → May true fs span (class_byte (Some test) span s)
-  class_may test s = if_may true (has_byte s && test (first_byte s)) (parsed (byte_value (first_byte s)) (onward s)) (missed_at why.Class s span) refl (refl, refl)
+  class_may test s = if_may true (has_byte s && test (first_byte s)) (parsed (byte_value (first_byte s)) (onward s)) (missed_at why.Class s span) refl (
+    refl,
+    refl,
+  )
 
   match_may : (bs : List ℕ) (whole : Value) (s : Stream) → May true fs span (match_bytes bs whole span s)
   match_may [] whole s = refl
@@ -254,11 +261,16 @@ module _ (fs : List Fault) (span : Span) where
   primitive_may P.GetStream no_values s = refl
   primitive_may P.Offset no_values s = refl
   primitive_may P.SetStream (value (stream t) no_values) s = refl
-  primitive_may P.Take (value n (value (stream t) no_values)) s = then_may true (count_of n) (λ k. part_of k t (front k t) why.Take span s) (count_calm n) (λ k. part_may k t (front k t) why.Take s)
-  primitive_may P.Drop (value n (value (stream t) no_values)) s = then_may true (count_of n) (λ k. part_of k t (behind k t) why.Drop span s) (count_calm n) (λ k. part_may k t (behind k t) why.Drop s)
-  primitive_may P.Index (value (array vs) (value i no_values)) s = then_may true (count_of i) (λ k. present (element vs k) why.Index span s) (count_calm i) (λ k. present_may (element vs k) why.Index s)
-  primitive_may P.Lookup (value k (value (mapping ps) no_values)) s = then_may true (found k ps) (λ w. present w why.Lookup span s) (found_calm k ps) (λ w. present_may w why.Lookup s)
-  primitive_may P.Insert (value k (value v (value (mapping ps) no_values))) s = then_may true (found k ps) (λ w. insert_absent w k v ps span s) (found_calm k ps) (λ w. absent_may w k v ps s)
+  primitive_may P.Take (value n (value (stream t) no_values)) s =
+      then_may true (count_of n) (λ k. part_of k t (front k t) why.Take span s) (count_calm n) (λ k. part_may k t (front k t) why.Take s)
+  primitive_may P.Drop (value n (value (stream t) no_values)) s =
+      then_may true (count_of n) (λ k. part_of k t (behind k t) why.Drop span s) (count_calm n) (λ k. part_may k t (behind k t) why.Drop s)
+  primitive_may P.Index (value (array vs) (value i no_values)) s =
+      then_may true (count_of i) (λ k. present (element vs k) why.Index span s) (count_calm i) (λ k. present_may (element vs k) why.Index s)
+  primitive_may P.Lookup (value k (value (mapping ps) no_values)) s =
+      then_may true (found k ps) (λ w. present w why.Lookup span s) (found_calm k ps) (λ w. present_may w why.Lookup s)
+  primitive_may P.Insert (value k (value v (value (mapping ps) no_values))) s =
+      then_may true (found k ps) (λ w. insert_absent w k v ps span s) (found_calm k ps) (λ w. absent_may w k v ps s)
   primitive_may p vs s = tt
 
 -- arithmetic ------------------------------------------------------------------
@@ -280,10 +292,14 @@ op_answers : (o : Op) (ty : NumType) (x y : ℤ) → Answers (faults_at o) (op_o
 op_answers op.Add ty x y = settled_answers [] ty (x +ℤ y)
 op_answers op.Sub ty x y = settled_answers [] ty (x -ℤ y)
 op_answers op.Mul ty x y = settled_answers [] ty (x *ℤ y)
-op_answers op.Div ty x y = if_answers (Overflow ∷ DivZero ∷ []) (is_zero y) (Err DivZero) (settled ty (int_div x y)) (inr (inl refl)) (settled_answers (DivZero ∷ []) ty (int_div x y))
-op_answers op.Rem ty x y = if_answers (Overflow ∷ DivZero ∷ []) (is_zero y) (Err DivZero) (settled ty (int_rem x y)) (inr (inl refl)) (settled_answers (DivZero ∷ []) ty (int_rem x y))
-op_answers op.Shl ty x y = if_answers (Overflow ∷ Shift ∷ []) (nat_le (width_of ty) (unsigned_abs y)) (Err Shift) (settled ty (x *ℤ pos (2 ^ unsigned_abs y))) (inr (inl refl)) (settled_answers (Shift ∷ []) ty (x *ℤ pos (2 ^ unsigned_abs y)))
-op_answers op.Shr ty x y = if_answers (Overflow ∷ Shift ∷ []) (nat_le (width_of ty) (unsigned_abs y)) (Err Shift) (settled ty (int_shr x (unsigned_abs y))) (inr (inl refl)) (settled_answers (Shift ∷ []) ty (int_shr x (unsigned_abs y)))
+op_answers op.Div ty x y = if_answers (Overflow ∷ DivZero ∷ []) (is_zero y) (Err DivZero) (settled ty (int_div x y)) (inr (inl refl))
+    (settled_answers (DivZero ∷ []) ty (int_div x y))
+op_answers op.Rem ty x y = if_answers (Overflow ∷ DivZero ∷ []) (is_zero y) (Err DivZero) (settled ty (int_rem x y)) (inr (inl refl))
+    (settled_answers (DivZero ∷ []) ty (int_rem x y))
+op_answers op.Shl ty x y = if_answers (Overflow ∷ Shift ∷ []) (nat_le (width_of ty) (unsigned_abs y)) (Err Shift) (settled ty (x *ℤ pos (2 ^ unsigned_abs y)))
+    (inr (inl refl)) (settled_answers (Shift ∷ []) ty (x *ℤ pos (2 ^ unsigned_abs y)))
+op_answers op.Shr ty x y = if_answers (Overflow ∷ Shift ∷ []) (nat_le (width_of ty) (unsigned_abs y)) (Err Shift) (settled ty (int_shr x (unsigned_abs y)))
+    (inr (inl refl)) (settled_answers (Shift ∷ []) ty (int_shr x (unsigned_abs y)))
 op_answers op.And ty x y = settled_answers [] ty (pos (bit_and (unsigned_abs x) (unsigned_abs y)))
 op_answers op.Or ty x y = settled_answers [] ty (pos (bit_or (unsigned_abs x) (unsigned_abs y)))
 op_answers op.Xor ty x y = settled_answers [] ty (pos (bit_xor (unsigned_abs x) (unsigned_abs y)))
@@ -293,7 +309,8 @@ settled_calm fs ty span (Ok n) h = tt
 settled_calm fs ty span (Err f) h = (h, refl)
 
 arithmetic_calm : (o : Op) (span : Span) (v w : Value) → Calm (faults_at o) span (arithmetic_value o span v w)
-arithmetic_calm o span (number s x) (number t y) = if_calm (faults_at o) span (same_type t (right_type o s) && has_op s o) (settled_at s span (op_of o s x y)) stuck (settled_calm (faults_at o) s span (op_of o s x y) (op_answers o s x y)) tt
+arithmetic_calm o span (number s x) (number t y) = if_calm (faults_at o) span (same_type t (right_type o s) && has_op s o) (settled_at s span (op_of o s x y))
+    stuck (settled_calm (faults_at o) s span (op_of o s x y) (op_answers o s x y)) tt
 arithmetic_calm o span v w = tt
 
 negated_calm : (span : Span) (v : Value) → Calm (Overflow ∷ []) span (negated span v)
@@ -338,10 +355,15 @@ applied_calm c.most (value (number ty (pos m)) (value (number other (pos n)) no_
 applied_calm c.push (value (array vs) (value v no_values)) span = tt
 applied_calm c.less_one (value (number ty (pos n)) no_values) span = tt
 applied_calm c.first_position no_values span = tt
-applied_calm c.has_position (value w (value i no_values)) span = then_calm [] span (elements_count w) _ (many_calm [] span w) (λ n. then_calm [] span (position_of i) (λ k. gives (boolean (nat_lt k n))) (position_calm [] span i) (λ k. tt))
-applied_calm c.element_at (value w (value i no_values)) span = then_calm [] span (position_of i) (λ k. element_there w k) (position_calm [] span i) (λ k. element_calm [] span w k)
-applied_calm c.key_at (value w (value i no_values)) span = then_calm [] span (position_of i) (λ k. key_there w k) (position_calm [] span i) (λ k. key_calm [] span w k)
-applied_calm c.next_position (value w (value i no_values)) span = then_calm [] span (elements_count w) _ (many_calm [] span w) (λ n. then_calm [] span (position_of i) _ (position_calm [] span i) (λ k. tt))
+applied_calm c.has_position (value w (value i no_values)) span =
+    then_calm [] span (elements_count w) _ (many_calm [] span w) (λ n.
+    then_calm [] span (position_of i) (λ k. gives (boolean (nat_lt k n))) (position_calm [] span i) (λ k. tt))
+applied_calm c.element_at (value w (value i no_values)) span =
+    then_calm [] span (position_of i) (λ k. element_there w k) (position_calm [] span i) (λ k. element_calm [] span w k)
+applied_calm c.key_at (value w (value i no_values)) span =
+    then_calm [] span (position_of i) (λ k. key_there w k) (position_calm [] span i) (λ k. key_calm [] span w k)
+applied_calm c.next_position (value w (value i no_values)) span =
+    then_calm [] span (elements_count w) _ (many_calm [] span w) (λ n. then_calm [] span (position_of i) _ (position_calm [] span i) (λ k. tt))
 applied_calm c.gather (value w (value (array ws) no_values)) span = gathered_calm [] span w ws
 applied_calm o vs span = tt
 

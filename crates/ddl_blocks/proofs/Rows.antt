@@ -14,7 +14,8 @@ use Rattle.ddl_ops.specs.Primitives.{byte_value, byte_values}
 use Rattle.ddl_ops.specs.declared.operators.Infix.TheVariants.{Arithmetic}
 use Rattle.ddl_ops.specs.declared.pattern.Pattern.TheVariants.{Number, Just}
 use Rattle.ddl_core.specs.Core.{Operation, text, literal, truth, unit_, nothing_, just_, list, infix_, push, match, match_text, uint8}
-use Rattle.ddl_blocks.specs.Code.{of_type, Targets, Instr, do_, build, choose, content, spawn, notify, dup, free, note, Exit, jump, branch, switch_to, call_to, return, fail_, halt, Block, Function, Code}
+use Rattle.ddl_blocks.specs.Code.{of_type, Targets, Instr, do_, build, choose, content, spawn, notify, dup, free, note, Exit, jump, branch, switch_to, call_to}
+use Rattle.ddl_blocks.specs.Code.{return, fail_, halt, Block, Function, Code}
 use Rattle.ddl_blocks.specs.Run.{Run, counts}
 
 abbrev span : Span

@@ -34,7 +34,8 @@ step_within (slot_parses v s x) k m h = step_within x k m h
 run_within : (c : Setting) (xs : List ℕ) (st : SlotState) → ticks (slot_run c xs st) ≤ length xs
 run_within c [] st = omega arith
 run_within c (x ∷ xs) st =
-    let h : ticks (slot_then (slot_step c x st) (slot_run c xs)) ≤ length xs = step_within (slot_step c x st) (slot_run c xs) (length xs) (run_within c xs) in omega arith
+    let h : ticks (slot_then (slot_step c x st) (slot_run c xs)) ≤ length xs = step_within (slot_step c x st) (slot_run c xs) (length xs) (run_within c xs)
+    in omega arith
 
 pub within_numbers : WithinNumbers
 within_numbers xs code bs = step_within (slot_first code bs) (slot_run (setting code bs) xs) (length xs) (run_within (setting code bs) xs)

@@ -9,7 +9,8 @@ use Rattle.ddl_ops.specs.declared.pattern.Pattern.{Pattern}
 use Rattle.ddl_ops.specs.Patterns.{Matched, has_it, has_another, has_none, matched}
 use Rattle.ddl_core.specs.Meaning.{listed}
 use Rattle.ddl_core.specs.Operations.{performed}
-use Rattle.ddl_blocks.specs.Code.{Target, Targets, Instr, do_, build, choose, content, spawn, notify, dup, free, note, Exit, jump, branch, switch_to, call_to, return, fail_, halt, Block, Function}
+use Rattle.ddl_blocks.specs.Code.{Target, Targets, Instr, do_, build, choose, content, spawn, notify, dup, free, note, Exit, jump, branch, switch_to, call_to}
+use Rattle.ddl_blocks.specs.Code.{return, fail_, halt, Block, Function}
 use Rattle.ddl_blocks.specs.State.{Frame, Thread, Waiting, State, live, doing, Stepped, on, ended, misses, parses}
 
 -- what must be there

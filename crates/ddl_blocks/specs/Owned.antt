@@ -1,6 +1,7 @@
 -- Owned code: on every way through a block each reference is used up exactly once.
 use Rattle.std.specs.Prelude.{◌≡◌, ℕ, ◌<◌, ◌≤◌, List, [], ◌∷◌, ◌++◌, map, Bool, true, false, Option, Some, None, slice_get}
-use Rattle.ddl_blocks.specs.Code.{ValueType, of_type, builder, Target, Instr, do_, build, choose, content, spawn, notify, dup, free, note, Exit, jump, branch, switch_to, call_to, return, fail_, halt, Block, Function, Code}
+use Rattle.ddl_blocks.specs.Code.{ValueType, of_type, builder, Target, Instr, do_, build, choose, content, spawn, notify, dup, free, note, Exit, jump, branch}
+use Rattle.ddl_blocks.specs.Code.{switch_to, call_to, return, fail_, halt, Block, Function, Code}
 use Rattle.ddl_blocks.specs.OperationTypes.{array, unit}
 use Rattle.ddl_blocks.specs.Places.{Each, is_reference}
 use Rattle.ddl_blocks.specs.WellTyped.{Known, typed, answer, lessened, raised, used, in_slots, spawned_type, IsWellTyped}

@@ -1,11 +1,13 @@
 -- Where the result of an operation stands: in a word that is there, or in one new node.
-use Rattle.std.specs.Prelude.{ℕ, zero, suc, ◌+◌, ◌==◌, Bool, true, false, List, [], ◌∷◌, ◌++◌, unsigned_abs, bytes_eq, nat_eq, if◌then◌else◌, Option, Some, None, slice_get}
+use Rattle.std.specs.Prelude.{ℕ, zero, suc, ◌+◌, ◌==◌, Bool, true, false, List, [], ◌∷◌, ◌++◌, unsigned_abs, bytes_eq, nat_eq, if◌then◌else◌, Option, Some}
+use Rattle.std.specs.Prelude.{None, slice_get}
 use Rattle.std.specs.declared.cmp.Ordering.{Ordering}
 use Rattle.std.specs.declared.cmp.Ordering.TheVariants.{Equal}
 use Rattle.ddl_types.specs.declared.num.NumType.TheVariants as N
 use Rattle.ddl_types.specs.Types.{Ty, con, none, more}
 use Rattle.ddl_types.specs.Types as t
-use Rattle.ddl_types.specs.Value.{Value, Fields, Pairs, number, bitdata, boolean, unit, nothing, fields, array, mapping, stream, no_fields, field, no_pairs, pair}
+use Rattle.ddl_types.specs.Value.{Value, Fields, Pairs, number, bitdata, boolean, unit, nothing, fields, array, mapping, stream, no_fields, field, no_pairs}
+use Rattle.ddl_types.specs.Value.{pair}
 use Rattle.ddl_ops.specs.Arrays.{bytes_of}
 use Rattle.ddl_ops.specs.Comparisons.{key_order}
 use Rattle.ddl_ops.specs.Valued.{Given, gives}

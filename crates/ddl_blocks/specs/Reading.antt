@@ -3,7 +3,8 @@ use Rattle.std.specs.Prelude.{ℕ, zero, suc, List, [], ◌∷◌, ◌++◌, map
 use Rattle.ddl_types.specs.declared.num.NumType.TheVariants as N
 use Rattle.ddl_types.specs.Types.{Ty, Tys, Head, Sub, var, con, none, more, on, arguments}
 use Rattle.ddl_types.specs.Types as t
-use Rattle.ddl_types.specs.Value.{Value, Values, Fields, Pairs, Source, in_input, in_array, number, bitdata, boolean, unit, nothing, just, fields, tagged, array, mapping, stream, no_values, value, no_fields, field, no_pairs, pair}
+use Rattle.ddl_types.specs.Value.{Value, Values, Fields, Pairs, Source, in_input, in_array, number, bitdata, boolean, unit, nothing, just, fields, tagged}
+use Rattle.ddl_types.specs.Value.{array, mapping, stream, no_values, value, no_fields, field, no_pairs, pair}
 use Rattle.ddl_types.specs.Value as values
 use Rattle.ddl_slots.specs.declared.node.Node.{Node}
 use Rattle.ddl_slots.specs.declared.node.NodeKind.{NodeKind}

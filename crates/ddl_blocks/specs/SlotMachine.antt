@@ -17,12 +17,15 @@ use Rattle.ddl_slots.specs.declared.word.Word.{Word}
 use Rattle.ddl_slots.specs.declared.word.Word.TheVariants as W
 use Rattle.ddl_slots.specs.Slots.{Slots, picked, made, dup_all, release_all}
 use Rattle.ddl_slots.specs.Slots as slots
-use Rattle.ddl_blocks.specs.Code.{Prim, Instr, do_, build, choose, content, spawn, notify, dup, free, note, Exit, jump, branch, switch_to, call_to, return, fail_, halt, Function, PlaceShape, ValueType, of_type, builder}
+use Rattle.ddl_blocks.specs.Code.{Prim, Instr, do_, build, choose, content, spawn, notify, dup, free, note, Exit, jump, branch, switch_to, call_to, return}
+use Rattle.ddl_blocks.specs.Code.{fail_, halt, Function, PlaceShape, ValueType, of_type, builder}
 use Rattle.ddl_blocks.specs.Machine.{block_at, picks, target_of, choice_of, truth_in, number_in}
 use Rattle.ddl_blocks.specs.OperationTypes.{array, count, unit}
 use Rattle.ddl_blocks.specs.Placing.{Placed, as_word, as_node, node_of, array_of, placed, placed_content}
 use Rattle.ddl_blocks.specs.Reading.{and_there, node_at, items_at, stream_at, value_of}
-use Rattle.ddl_blocks.specs.SlotState.{Cell, SlotThread, SlotWaiting, World, SlotState, slot_live, slot_doing, SlotStepped, slot_on, slot_ended, slot_stuck, slot_misses, slot_parses, with_map, words_of, types_of, spent, gained, changed_at, taken, handed, used_up, cells_for, with_result, thread_words, waiting_words}
+use Rattle.ddl_blocks.specs.SlotState.{Cell, SlotThread, SlotWaiting, World, SlotState, slot_live, slot_doing, SlotStepped, slot_on, slot_ended, slot_stuck}
+use Rattle.ddl_blocks.specs.SlotState.{slot_misses, slot_parses, with_map, words_of, types_of, spent, gained, changed_at, taken, handed, used_up, cells_for}
+use Rattle.ddl_blocks.specs.SlotState.{with_result, thread_words, waiting_words}
 use Rattle.ddl_blocks.specs.WellTyped.{spawned_type}
 
 -- what the machine runs on: functions, the places and bitdata of their types, the bytes of the input
@@ -234,7 +237,8 @@ module _ (c : Setting) where
         given_result (built_in w.map args) (built_type args) args is e left h w))
     slot_act (choose i ps ∷ is) e cs h w =
         with_there (picks (i ∷ []) cs) (λ args. with_there (taken (i ∷ []) cs) (λ left.
-        with_there (slice_get cs i) (λ k. with_there (cell_value w.map k) (λ v. with_there (choice_of ps v) (λ n. given_result (Some (as_word (W.Uint n))) (of_type count) args is e left h w)))))
+        with_there (slice_get cs i) (λ k. with_there (cell_value w.map k) (λ v.
+        with_there (choice_of ps v) (λ n. given_result (Some (as_word (W.Uint n))) (of_type count) args is e left h w)))))
     slot_act (content i p ty other ∷ is) e cs h w =
         with_there (picks (i ∷ []) cs) (λ args. with_there (taken (i ∷ []) cs) (λ left.
         with_there (slice_get cs i) (λ k. with_there (cell_value w.map k) (λ v. slot_met (matched p v) (of_type ty) other args is e left h w))))

@@ -8,7 +8,8 @@ use Rattle.ddl_slots.specs.declared.word.Word.TheVariants as W
 use Rattle.ddl_blocks.specs.Code.{Code}
 use Rattle.ddl_blocks.specs.Run.{greatest}
 use Rattle.ddl_blocks.specs.SlotMachine.{Setting, slot_enter, slot_step}
-use Rattle.ddl_blocks.specs.SlotState.{SlotThread, World, SlotState, SlotStepped, slot_on, slot_ended, slot_stuck, slot_misses, slot_parses, slot_then, held_words, out_words, world_of, let_go}
+use Rattle.ddl_blocks.specs.SlotState.{SlotThread, World, SlotState, SlotStepped, slot_on, slot_ended, slot_stuck, slot_misses, slot_parses, slot_then}
+use Rattle.ddl_blocks.specs.SlotState.{held_words, out_words, world_of, let_go}
 
 -- what a code runs on, with an input
 abbrev pub setting : Code → List ℕ → Setting
@@ -85,7 +86,8 @@ IsCounted st = Counted (world_of st).map (λ x. refs x (held_words st) + refs x 
 -- a state that steps lead to, whatever numbers they are offered
 pub data Reached (code : Code) (bs : List ℕ) : SlotState → Type 0 where
   start : (st : SlotState) → slot_state_of (slot_first code bs) ≡ Some st → Reached code bs st
-  next : {st : SlotState} (x : ℕ) (after : SlotState) → Reached code bs st → slot_state_of (slot_step (setting code bs) x st) ≡ Some after → Reached code bs after
+  next : {st : SlotState} (x : ℕ) (after : SlotState) → Reached code bs st → slot_state_of (slot_step (setting code bs) x st) ≡ Some after
+      → Reached code bs after
 
 -- in every state that steps lead to counts are references
 abbrev pub CountsAreReferences : Code → List ℕ → Type 0

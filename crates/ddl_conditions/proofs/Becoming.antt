@@ -1,5 +1,6 @@
 -- A number becomes `int`, or is passed over; how a walk begins and ends.
-use Rattle.std.proofs.Common.{◌≡◌, ℕ, ◌+◌, ◌*◌, ◌≤◌, ◌<◌, List, [], ◌∷◌, ◌++◌, map, refl, sym, ap, ◌∙◌, arith, suc, true, false, Bool, subst, append_assoc, length, Some, None, Option}
+use Rattle.std.proofs.Common.{◌≡◌, ℕ, ◌+◌, ◌*◌, ◌≤◌, ◌<◌, List, [], ◌∷◌, ◌++◌, map, refl, sym, ap, ◌∙◌, arith, suc, true, false, Bool, subst, append_assoc}
+use Rattle.std.proofs.Common.{length, Some, None, Option}
 use Rattle.std.specs.Prelude.{All}
 use Rattle.std.proofs.lemmas.List.Elements.{All-nil, All-push}
 use Rattle.ddl_types.specs.Types.{Ty, Ty.var, Ty.con, Tys.none, Sub, on, Head.int, Below}
@@ -14,7 +15,8 @@ use Rattle.ddl_conditions.specs.Answer.{IsUnsettled}
 use Rattle.ddl_conditions.specs.Closing.{IsUnmet}
 use Rattle.ddl_types.specs.Conditions.{num, word, lit}
 use Rattle.ddl_judging.specs.Demands.{Asked, Demand, condition, DemandBelow, numbered}
-use Rattle.ddl_conditions.specs.Growing.{Added, Group, Grows, IsDone, IsFree, IsReady, State, FirstOf, adding_ones, added_at, becoming_int, begun, equations, further, start}
+use Rattle.ddl_conditions.specs.Growing.{Added, Group, Grows, IsDone, IsFree, IsReady, State, FirstOf, adding_ones, added_at, becoming_int, begun, equations}
+use Rattle.ddl_conditions.specs.Growing.{further, start}
 use Rattle.ddl_conditions.specs.Settled.{IsEnd}
 use Rattle.ddl_growing.specs.Turns.{AreShapes, IsRefusal, Solved}
 use Rattle.ddl_conditions.specs.Walking.{AreBelow, Fits, Going, HasGrown, IsCut, IsFreeAt, IsOver, IsStep, Place, Stops, Wait, WaitIf, left, unchecked}
@@ -42,9 +44,29 @@ split_more : (g : Group) (passed ns others : List Asked) (x : Asked) → g.asked
 split_more g passed ns others x s q = s ∙ ap (λ y. passed ++ y) q ∙ sym (append_assoc passed (x ∷ []) others)
 
 -- a number is not free
-pub number_passed : (g : Group) (z : Solved) (b a ns : List Asked) (c : Bool) (x : Asked) (others : List Asked) → ns ≡ x ∷ others → (IsFree g z.solution x → ⊥) → IsStep true g (at z b a c ns) (at z b a c others)
+pub number_passed : (g : Group) (z : Solved) (b a ns : List Asked) (c : Bool) (x : Asked) (others : List Asked) → ns ≡ x ∷ others → (IsFree g z.solution x → ⊥)
+    → IsStep true g (at z b a c ns) (at z b a c others)
 number_passed g z b a ns c x others q told = (
-  (λ es n o. record { state = o.state; grows = o.grows; accepted = o.accepted; variables = o.variables; waiting = o.waiting; waited = o.waited; passed = o.passed ++ x ∷ []; split = split_more g o.passed ns others x o.split q; unfree = All-push (λ y. IsFree g z.solution y → ⊥) o.passed x o.unfree told; fits = record { most = o.fits.most; behind = o.fits.behind; ahead = o.fits.ahead; numbers = others_below z.variables ns x others q o.fits.numbers; shapes = o.fits.shapes; asked = o.fits.asked } }),
+  (λ es n o. record {
+    state = o.state;
+    grows = o.grows;
+    accepted = o.accepted;
+    variables = o.variables;
+    waiting = o.waiting;
+    waited = o.waited;
+    passed =
+        o.passed ++ x ∷ [];
+    split = split_more g o.passed ns others x o.split q;
+    unfree = All-push (λ y. IsFree g z.solution y → ⊥) o.passed x o.unfree told;
+    fits = record {
+      most = o.fits.most;
+      behind = o.fits.behind;
+      ahead = o.fits.ahead;
+      numbers = others_below z.variables ns x others q o.fits.numbers;
+      shapes = o.fits.shapes;
+      asked = o.fits.asked;
+    };
+  }),
   (let k : length ns ≡ suc (length others) = ap length q in omega arith),
 )
 
@@ -55,12 +77,23 @@ waits_all f w b a q spent wait = let P : List Asked → Type 0 = λ y. Wait f y 
 abbrev pub int_state : State → Asked → Ty → State
 int_state s x t = record { added = s.added ++ added_at x.span (equal (con int none) t ∷ []); waiting = s.waiting; next = s.next }
 
-int_grows : (g : Group) (es : List Equation) (n : ℕ) (z : Solved) (b a ns : List Asked) (c : Bool) (x : Asked) (others : List Asked) (t : Ty) (o : Going g es n (at z b a c ns)) → c ≡ true → a ≡ [] → ns ≡ x ∷ others → IsFreeAt g z.solution x t → Grows g es n (int_state o.state x t)
+int_grows : (g : Group) (es : List Equation) (n : ℕ) (z : Solved) (b a ns : List Asked) (c : Bool) (x : Asked) (others : List Asked) (t : Ty)
+    (o : Going g es n (at z b a c ns)) → c ≡ true → a ≡ [] → ns ≡ x ∷ others → IsFreeAt g z.solution x t → Grows g es n (int_state o.state x t)
 int_grows g es n z b a ns c x others t o checked spent q free =
     let P : List Equation → Type 0 = λ y. MostGeneral y z.solution in
-    further z.solution o.grows (subst P o.accepted o.fits.most) (becoming_int x (waits_all z.solution o.state.waiting b a o.waiting spent (waits_of c z.solution b checked o.waited)) (record { before = o.passed; after = others; split = o.split ∙ ap (λ y. o.passed ++ y) q; none_before = o.unfree; found = free_of g z.solution x t free }))
+    further z.solution o.grows (subst P o.accepted o.fits.most)
+    (becoming_int x (waits_all z.solution o.state.waiting b a o.waiting spent (waits_of c z.solution b checked o.waited))
+    (record {
+      before = o.passed;
+      after = others;
+      split = o.split ∙ ap (λ y. o.passed ++ y) q;
+      none_before = o.unfree;
+      found =
+          free_of g z.solution x t free;
+    }))
 
-told_int : (g : Group) (old : List Equation) (z2 : Solved) (x : Asked) (t : Ty) → numbered x.what ≡ Some t → z2.accepted ≡ old ++ equal (con int none) t ∷ [] → MostGeneral z2.accepted z2.solution → IsFree g z2.solution x → ⊥
+told_int : (g : Group) (old : List Equation) (z2 : Solved) (x : Asked) (t : Ty) → numbered x.what ≡ Some t → z2.accepted ≡ old ++ equal (con int none) t ∷ []
+    → MostGeneral z2.accepted z2.solution → IsFree g z2.solution x → ⊥
 told_int g old z2 x t q accepted most free =
     let P : List Equation → Type 0 = λ y. Solves z2.solution y in
     let s = solves_back z2.solution old (equal (con int none) t ∷ []) (subst P accepted most.solves) in
@@ -68,7 +101,9 @@ told_int g old z2 x t q accepted most free =
     cc
 
 -- a free number becomes `int`
-pub number_int : (g : Group) (z z2 : Solved) (b a ns : List Asked) (c : Bool) (x : Asked) (others : List Asked) (t : Ty) → c ≡ true → a ≡ [] → ns ≡ x ∷ others → IsFreeAt g z.solution x t → z2.accepted ≡ z.accepted ++ equal (con int none) t ∷ [] → z2.variables ≡ z.variables → MostGeneral z2.accepted z2.solution → IsStep true g (at z b a c ns) (at z2 b a false others)
+pub number_int : (g : Group) (z z2 : Solved) (b a ns : List Asked) (c : Bool) (x : Asked) (others : List Asked) (t : Ty) → c ≡ true → a ≡ [] → ns ≡ x ∷ others
+    → IsFreeAt g z.solution x t → z2.accepted ≡ z.accepted ++ equal (con int none) t ∷ [] → z2.variables ≡ z.variables → MostGeneral z2.accepted z2.solution
+    → IsStep true g (at z b a c ns) (at z2 b a false others)
 number_int g z z2 b a ns c x others t checked spent q free accepted variables most = (
   (λ es n o. (
       let P : List Equation → Type 0 = λ y. Solves z2.solution y in
@@ -86,20 +121,34 @@ number_int g z z2 b a ns c x others t checked spent q free accepted variables mo
         waited = tt;
         passed = o.passed ++ x ∷ [];
         split = split_more g o.passed ns others x o.split q;
-        unfree = All-push (λ y. IsFree g z2.solution y → ⊥) o.passed x (unfree_stays g z.accepted (equal (con int none) t ∷ []) z.solution z2.solution o.passed o.fits.most (subst P accepted most.solves) o.unfree) (told_int g z.accepted z2 x t free.number accepted most);
-        fits = record { most = most; behind = subst B (sym variables) o.fits.behind; ahead = subst A (sym variables) o.fits.ahead; numbers = subst N (sym variables) (others_below z.variables ns x others q o.fits.numbers); shapes = subst S (sym variables) o.fits.shapes; asked = subst K (sym variables) o.fits.asked };
+        unfree = All-push (λ y. IsFree g z2.solution y → ⊥) o.passed x
+            (unfree_stays g z.accepted (equal (con int none) t ∷ []) z.solution z2.solution o.passed o.fits.most (subst P accepted most.solves) o.unfree)
+            (told_int g z.accepted z2 x t free.number accepted most);
+        fits = record {
+          most = most;
+          behind = subst B (sym variables) o.fits.behind;
+          ahead = subst A (sym variables) o.fits.ahead;
+          numbers =
+              subst N (sym variables) (others_below z.variables ns x others q o.fits.numbers);
+          shapes = subst S (sym variables) o.fits.shapes;
+          asked =
+              subst K (sym variables) o.fits.asked;
+        };
       })),
   (let k : length ns ≡ suc (length others) = ap length q in let j : unchecked c ≡ 0 = ap unchecked checked in omega arith),
 )
 
 -- the equation is refused
-pub number_cut : (g : Group) (z z2 : Solved) (b a ns : List Asked) (c : Bool) (x : Asked) (others : List Asked) (t : Ty) (err : SettleError) → c ≡ true → a ≡ [] → ns ≡ x ∷ others → IsFreeAt g z.solution x t → z2 ≡ z → IsRefusal err x.span z (equal (con int none) t) → Stops g (at z b a c ns) z2 err
+pub number_cut : (g : Group) (z z2 : Solved) (b a ns : List Asked) (c : Bool) (x : Asked) (others : List Asked) (t : Ty) (err : SettleError) → c ≡ true → a ≡ []
+    → ns ≡ x ∷ others → IsFreeAt g z.solution x t → z2 ≡ z → IsRefusal err x.span z (equal (con int none) t) → Stops g (at z b a c ns) z2 err
 number_cut g z z2 b a ns c x others t err checked spent q free same refusal es n o =
     let P : Solved → Type 0 = λ y. IsRefusal err x.span y (equal (con int none) t) in
-    cut_at g es n z2 (int_state o.state x t) o.state.added [] (equal (con int none) t) x.span err (int_grows g es n z b a ns c x others t o checked spent q free) refl (ap (λ (y : Solved). y.accepted) same ∙ o.accepted) (subst P (sym same) refusal)
+    cut_at g es n z2 (int_state o.state x t) o.state.added [] (equal (con int none) t) x.span err
+    (int_grows g es n z b a ns c x others t o checked spent q free) refl (ap (λ (y : Solved). y.accepted) same ∙ o.accepted) (subst P (sym same) refusal)
 
 -- before the first step
-pub going_start : (g : Group) (z : Solved) (b a ns : List Asked) (c : Bool) → b ≡ [] → a ≡ g.asked → c ≡ true → ns ≡ g.asked → MostGeneral z.accepted z.solution → AreBelow z.variables g.asked → AreShapes z.variables g.shapes → Going g z.accepted z.variables (at z b a c ns)
+pub going_start : (g : Group) (z : Solved) (b a ns : List Asked) (c : Bool) → b ≡ [] → a ≡ g.asked → c ≡ true → ns ≡ g.asked → MostGeneral z.accepted z.solution
+    → AreBelow z.variables g.asked → AreShapes z.variables g.shapes → Going g z.accepted z.variables (at z b a c ns)
 going_start g z b a ns c eb ea ec en most below shapes =
     let P : List Asked → Type 0 = λ y. AreBelow z.variables y in
     let W : List Asked → Type 0 = λ y. Wait z.solution y in
@@ -114,7 +163,15 @@ going_start g z b a ns c eb ea ec en most below shapes =
       passed = [];
       split = sym en;
       unfree = All-nil (λ y. IsFree g z.solution y → ⊥);
-      fits = record { most = most; behind = subst P (sym eb) (All-nil (λ y. DemandBelow z.variables y.what)); ahead = subst P (sym ea) below; numbers = subst P (sym en) below; shapes = shapes; asked = below };
+      fits = record {
+        most = most;
+        behind = subst P (sym eb) (All-nil (λ y. DemandBelow z.variables y.what));
+        ahead = subst P (sym ea) below;
+        numbers =
+            subst P (sym en) below;
+        shapes = shapes;
+        asked = below;
+      };
     }
 
 -- where no step is left the list has grown to its end
@@ -126,7 +183,8 @@ grown_over g es n p q o h =
       state = o.state;
       grows = o.grows;
       done = record {
-        none_ready = waits_all p.solver.solution o.state.waiting p.behind p.ahead o.waiting h.1.none_ahead (waits_of p.checked p.solver.solution p.behind h.1.checked o.waited);
+        none_ready = waits_all p.solver.solution o.state.waiting p.behind p.ahead o.waiting h.1.none_ahead
+            (waits_of p.checked p.solver.solution p.behind h.1.checked o.waited);
         none_free = subst F (sym (o.split ∙ ap (λ y. o.passed ++ y) h.1.no_numbers ∙ append_none o.passed)) o.unfree;
       };
       all = o.accepted;

@@ -26,7 +26,13 @@ condition_below_more (loops s t r) m n h b = (below_more s m n h b.0, below_more
 demand_below_more : (d : Demand) (m n : ℕ) → m ≤ n → DemandBelow m d → DemandBelow n d
 demand_below_more (condition c) m n h b = condition_below_more c m n h b
 demand_below_more (make t x r) m n h b = (below_more t m n h b.0, below_more r m n h b.1)
-demand_below_more (gather t k v u r) m n h b = (below_more t m n h b.0, below_more k m n h b.1, below_more v m n h b.2, below_more u m n h b.3, below_more r m n h b.4)
+demand_below_more (gather t k v u r) m n h b = (
+  below_more t m n h b.0,
+  below_more k m n h b.1,
+  below_more v m n h b.2,
+  below_more u m n h b.3,
+  below_more r m n h b.4,
+)
 
 pub are_below_more : (xs : List Asked) (m n : ℕ) → m ≤ n → AreBelow m xs → AreBelow n xs
 are_below_more xs m n h b = All-weaker (λ a. DemandBelow m a.what) (λ a. DemandBelow n a.what) (λ a. demand_below_more a.what m n h) xs b

@@ -85,7 +85,8 @@ free_back z f g h a e free = by_type (on free.of f) refl (sym (along free.of f g
     }
     by_type (con c ts) q k = absurd (cc)
 
-pub unfree_stays : (z : Group) (es extra : List Equation) (f g : Sub) (xs : List Asked) → MostGeneral es f → Solves g (es ++ extra) → All (λ a. IsFree z f a → ⊥) xs → All (λ a. IsFree z g a → ⊥) xs
+pub unfree_stays : (z : Group) (es extra : List Equation) (f g : Sub) (xs : List Asked) → MostGeneral es f → Solves g (es ++ extra)
+    → All (λ a. IsFree z f a → ⊥) xs → All (λ a. IsFree z g a → ⊥) xs
 unfree_stays z es extra f g xs m s none_free =
     let i = m.general g (solves_front g es extra s) in
     All-weaker (λ a. IsFree z f a → ⊥) (λ a. IsFree z g a → ⊥) (λ a no free. no (free_back z f g i.0 a i.1 free)) xs none_free

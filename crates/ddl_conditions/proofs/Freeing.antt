@@ -14,7 +14,8 @@ use Rattle.ddl_conditions.specs.Walking.{IsFreeAt, MayBecomeInt}
 same_variable : (v w : ℕ) → var v ≡ var w → v ≡ w
 same_variable v w e = cc
 
-pub may_become : (g : Group) (f : Sub) (of x : Ty) (v : ℕ) (kept : Bool) → is_var x ≡ Some v → on x f ≡ on of f → IsFree x f → Says kept ((g.with_parameters ≡ true) × Stands g.shapes g.roots f v) → Says (not kept) (MayBecomeInt g f of)
+pub may_become : (g : Group) (f : Sub) (of x : Ty) (v : ℕ) (kept : Bool) → is_var x ≡ Some v → on x f ≡ on of f → IsFree x f
+    → Says kept ((g.with_parameters ≡ true) × Stands g.shapes g.roots f v) → Says (not kept) (MayBecomeInt g f of)
 may_become g f of x v kept e same free says = by_kept kept says
   where
     at_variable : on of f ≡ var v
@@ -24,7 +25,8 @@ may_become g f of x v kept e same free says = by_kept kept says
         sym same ∙ ap (λ y. on y f) q ∙ subst P q free
 
     by_kept : (b : Bool) → Says b ((g.with_parameters ≡ true) × Stands g.shapes g.roots f v) → Says (not b) (MayBecomeInt g f of)
-    by_kept true k = λ may. (let P : ℕ → Type 0 = λ w. g.with_parameters ≡ true → Stands g.shapes g.roots f w → ⊥ in subst P (same_variable may.variable v (sym may.free ∙ at_variable)) may.unkept k.0 k.1)
+    by_kept true k = λ may. (let P : ℕ → Type 0 = λ w. g.with_parameters ≡ true → Stands g.shapes g.roots f w
+        → ⊥ in subst P (same_variable may.variable v (sym may.free ∙ at_variable)) may.unkept k.0 k.1)
     by_kept false k = record { variable = v; free = at_variable; unkept = λ p s. k (p, s) }
 
 pub never_int : (g : Group) (f : Sub) (of x : Ty) → is_var x ≡ None → on x f ≡ on of f → MayBecomeInt g f of → ⊥

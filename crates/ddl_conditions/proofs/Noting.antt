@@ -1,5 +1,6 @@
 -- The places in a type were marked, part by part.
-use Rattle.std.proofs.Common.{◌≡◌, ℕ, ◌+◌, ◌<◌, List, [], ◌∷◌, ◌++◌, refl, sym, ap, subst, ◌∙◌, arith, inl, inr, ◌⊎◌, zero, suc, map, take, set, length, length-append, get_or, true, false, ◌||◌, Bool, Contains, add-one, eqb-true}
+use Rattle.std.proofs.Common.{◌≡◌, ℕ, ◌+◌, ◌<◌, List, [], ◌∷◌, ◌++◌, refl, sym, ap, subst, ◌∙◌, arith, inl, inr, ◌⊎◌, zero, suc, map, take, set, length}
+use Rattle.std.proofs.Common.{length-append, get_or, true, false, ◌||◌, Bool, Contains, add-one, eqb-true}
 use Rattle.std.proofs.lemmas.Bool.Decides.{eqb_tells}
 use Rattle.std.proofs.lemmas.List.{get_or-set_same, get_or-set_other}
 use Rattle.std.proofs.lemmas.List.Elements.{Contains-append_left, Contains-push, Contains-push_cases}
@@ -22,7 +23,8 @@ noted_none IsIn seen pending without = record {
 }
 
 -- the same places, said otherwise
-pub noted_same : (A B : ℕ → Type 0) (seen seen2 : List Bool) (pending pending2 : List ℕ) → ((p : ℕ) → A p → B p) → ((p : ℕ) → B p → A p) → Noted A seen seen2 pending pending2 → Noted B seen seen2 pending pending2
+pub noted_same : (A B : ℕ → Type 0) (seen seen2 : List Bool) (pending pending2 : List ℕ) → ((p : ℕ) → A p → B p) → ((p : ℕ) → B p → A p)
+    → Noted A seen seen2 pending pending2 → Noted B seen seen2 pending pending2
 noted_same A B seen seen2 pending pending2 there back n = record {
   counted = n.counted;
   keeps = n.keeps;
@@ -33,7 +35,8 @@ noted_same A B seen seen2 pending pending2 there back n = record {
 }
 
 -- the places of two sets, one after the other
-pub noted_both : (A B C : ℕ → Type 0) (seen seen2 seen3 : List Bool) (pending pending2 pending3 : List ℕ) → ((p : ℕ) → A p → C p) → ((p : ℕ) → B p → C p) → ((p : ℕ) → C p → A p ⊎ B p)
+pub noted_both : (A B C : ℕ → Type 0) (seen seen2 seen3 : List Bool) (pending pending2 pending3 : List ℕ) → ((p : ℕ) → A p → C p) → ((p : ℕ) → B p → C p)
+    → ((p : ℕ) → C p → A p ⊎ B p)
     → Noted A seen seen2 pending pending2 → Noted B seen2 seen3 pending2 pending3 → Noted C seen seen3 pending pending3
 noted_both A B C seen seen2 seen3 pending pending2 pending3 left right cases n m = record {
   counted = m.counted ∙ n.counted;
@@ -56,7 +59,8 @@ within (b ∷ seen) zero e = omega arith
 within (b ∷ seen) (suc p) e = omega (arith, within seen p e)
 
 -- a place that is new
-pub noted_new : (p : ℕ) (seen : List Bool) (pending pending2 : List ℕ) → is_seen seen p ≡ false → pending2 ≡ pending ++ p ∷ [] → Noted (λ q. q ≡ p) seen (set seen p true) pending pending2
+pub noted_new : (p : ℕ) (seen : List Bool) (pending pending2 : List ℕ) → is_seen seen p ≡ false → pending2 ≡ pending ++ p ∷ []
+    → Noted (λ q. q ≡ p) seen (set seen p true) pending pending2
 noted_new p seen pending pending2 e z = record {
   counted = counted;
   keeps = keeps;
@@ -105,7 +109,8 @@ abbrev pub IsPlain : Head → Type 0
 IsPlain h = (p : ℕ) → is_place p h ≡ false
 
 -- one part
-pub noted_one : (h : Head) (t x : Ty) (seen seen2 : List Bool) (pending pending2 : List ℕ) → IsPlain h → t ≡ con h (more x none) → Noted (PlaceIn x) seen seen2 pending pending2 → Noted (PlaceIn t) seen seen2 pending pending2
+pub noted_one : (h : Head) (t x : Ty) (seen seen2 : List Bool) (pending pending2 : List ℕ) → IsPlain h → t ≡ con h (more x none)
+    → Noted (PlaceIn x) seen seen2 pending pending2 → Noted (PlaceIn t) seen seen2 pending pending2
 noted_one h t x seen seen2 pending pending2 plain e n = noted_same (PlaceIn x) (PlaceIn t) seen seen2 pending pending2 there back n
   where
     parts : (p : ℕ) → has_place t p ≡ (has_place x p || false)
@@ -118,8 +123,10 @@ noted_one h t x seen seen2 pending pending2 plain e n = noted_same (PlaceIn x) (
     back p i = elim (or_cases (has_place x p) false (sym (parts p) ∙ i)) [ inl a ↦ a | inr z ↦ cc ]
 
 -- two parts
-pub noted_two : (h : Head) (t x y : Ty) (seen seen2 seen3 : List Bool) (pending pending2 pending3 : List ℕ) → IsPlain h → t ≡ con h (more x (more y none)) → Noted (PlaceIn x) seen seen2 pending pending2 → Noted (PlaceIn y) seen2 seen3 pending2 pending3 → Noted (PlaceIn t) seen seen3 pending pending3
-noted_two h t x y seen seen2 seen3 pending pending2 pending3 plain e n m = noted_both (PlaceIn x) (PlaceIn y) (PlaceIn t) seen seen2 seen3 pending pending2 pending3 left right cases n m
+pub noted_two : (h : Head) (t x y : Ty) (seen seen2 seen3 : List Bool) (pending pending2 pending3 : List ℕ) → IsPlain h → t ≡ con h (more x (more y none))
+    → Noted (PlaceIn x) seen seen2 pending pending2 → Noted (PlaceIn y) seen2 seen3 pending2 pending3 → Noted (PlaceIn t) seen seen3 pending pending3
+noted_two h t x y seen seen2 seen3 pending pending2 pending3 plain e n m =
+    noted_both (PlaceIn x) (PlaceIn y) (PlaceIn t) seen seen2 seen3 pending pending2 pending3 left right cases n m
   where
     parts : (p : ℕ) → has_place t p ≡ (has_place x p || (has_place y p || false))
     parts p = ap (λ z. has_place z p) e ∙ ap (λ b. b || (has_place x p || (has_place y p || false))) (plain p)
@@ -140,8 +147,10 @@ abbrev pub PlaceInAll : Tys → ℕ → Type 0
 PlaceInAll ts p = has_place_all ts p ≡ true
 
 -- a place, and its parts
-pub noted_place : (number : ℕ) (t : Ty) (ts : Tys) (seen seen2 seen3 : List Bool) (pending pending2 pending3 : List ℕ) → t ≡ con (place number) ts → Noted (λ q. q ≡ number) seen seen2 pending pending2 → Noted (PlaceInAll ts) seen2 seen3 pending2 pending3 → Noted (PlaceIn t) seen seen3 pending pending3
-noted_place number t ts seen seen2 seen3 pending pending2 pending3 e n m = noted_both (λ q. q ≡ number) (PlaceInAll ts) (PlaceIn t) seen seen2 seen3 pending pending2 pending3 left right cases n m
+pub noted_place : (number : ℕ) (t : Ty) (ts : Tys) (seen seen2 seen3 : List Bool) (pending pending2 pending3 : List ℕ) → t ≡ con (place number) ts
+    → Noted (λ q. q ≡ number) seen seen2 pending pending2 → Noted (PlaceInAll ts) seen2 seen3 pending2 pending3 → Noted (PlaceIn t) seen seen3 pending pending3
+noted_place number t ts seen seen2 seen3 pending pending2 pending3 e n m =
+    noted_both (λ q. q ≡ number) (PlaceInAll ts) (PlaceIn t) seen seen2 seen3 pending pending2 pending3 left right cases n m
   where
     parts : (p : ℕ) → has_place t p ≡ (is_place p (place number) || has_place_all ts p)
     parts p = ap (λ z. has_place z p) e
@@ -156,7 +165,8 @@ noted_place number t ts seen seen2 seen3 pending pending2 pending3 e n m = noted
     cases p i = elim (or_cases (is_place p (place number)) (has_place_all ts p) (sym (parts p) ∙ i)) [ inl a ↦ inl (eqb-true p number a) | inr b ↦ inr b ]
 
 -- the places of one part more
-places_next : (xs : List program.Ty) (i : ℕ) (x : program.Ty) (p : ℕ) → i < length xs → x ≡ get_or xs i x → has_place_all (tys_of (map ty_view (take (i + 1) xs))) p ≡ (has_place_all (tys_of (map ty_view (take i xs))) p || has_place (ty_view x) p)
+places_next : (xs : List program.Ty) (i : ℕ) (x : program.Ty) (p : ℕ) → i < length xs → x ≡ get_or xs i x
+    → has_place_all (tys_of (map ty_view (take (i + 1) xs))) p ≡ (has_place_all (tys_of (map ty_view (take i xs))) p || has_place (ty_view x) p)
 places_next xs i x p h e = rw (add-one i) (by_suc xs i h e)
   where
     or_false : (a : Bool) → (a || false) ≡ a
@@ -167,14 +177,20 @@ places_next xs i x p h e = rw (add-one i) (by_suc xs i h e)
     or_same true b c = refl
     or_same false b c = refl
 
-    by_suc : (xs : List program.Ty) (i : ℕ) → i < length xs → x ≡ get_or xs i x → has_place_all (tys_of (map ty_view (take (suc i) xs))) p ≡ (has_place_all (tys_of (map ty_view (take i xs))) p || has_place (ty_view x) p)
+    by_suc : (xs : List program.Ty) (i : ℕ) → i < length xs → x ≡ get_or xs i x
+        → has_place_all (tys_of (map ty_view (take (suc i) xs))) p ≡ (has_place_all (tys_of (map ty_view (take i xs))) p || has_place (ty_view x) p)
     by_suc [] i h e = absurd (omega arith)
     by_suc (y ∷ xs) zero h e = or_false (has_place (ty_view y) p) ∙ sym (ap (λ (q : program.Ty). has_place (ty_view q) p) e)
-    by_suc (y ∷ xs) (suc i) h e = ap (λ b. has_place (ty_view y) p || b) (by_suc xs i (omega arith) e) ∙ or_same (has_place (ty_view y) p) (has_place_all (tys_of (map ty_view (take i xs))) p) (has_place (ty_view x) p)
+    by_suc (y ∷ xs) (suc i) h e = ap (λ b. has_place (ty_view y) p || b) (by_suc xs i (omega arith) e)
+        ∙ or_same (has_place (ty_view y) p) (has_place_all (tys_of (map ty_view (take i xs))) p) (has_place (ty_view x) p)
 
-pub noted_next : (xs : List program.Ty) (i : ℕ) (x : program.Ty) (seen seen2 seen3 : List Bool) (pending pending2 pending3 : List ℕ) → i < length xs → x ≡ get_or xs i x
-    → Noted (PlaceInAll (tys_of (map ty_view (take i xs)))) seen seen2 pending pending2 → Noted (PlaceIn (ty_view x)) seen2 seen3 pending2 pending3 → Noted (PlaceInAll (tys_of (map ty_view (take (i + 1) xs)))) seen seen3 pending pending3
-noted_next xs i x seen seen2 seen3 pending pending2 pending3 h e n m = noted_both (PlaceInAll (tys_of (map ty_view (take i xs)))) (PlaceIn (ty_view x)) (PlaceInAll (tys_of (map ty_view (take (i + 1) xs)))) seen seen2 seen3 pending pending2 pending3
+pub noted_next : (xs : List program.Ty) (i : ℕ) (x : program.Ty) (seen seen2 seen3 : List Bool) (pending pending2 pending3 : List ℕ) → i < length xs
+    → x ≡ get_or xs i x
+    → Noted (PlaceInAll (tys_of (map ty_view (take i xs)))) seen seen2 pending pending2 → Noted (PlaceIn (ty_view x)) seen2 seen3 pending2 pending3
+    → Noted (PlaceInAll (tys_of (map ty_view (take (i + 1) xs)))) seen seen3 pending pending3
+noted_next xs i x seen seen2 seen3 pending pending2 pending3 h e n m =
+    noted_both (PlaceInAll (tys_of (map ty_view (take i xs)))) (PlaceIn (ty_view x)) (PlaceInAll (tys_of (map ty_view (take (i + 1) xs)))) seen seen2 seen3
+    pending pending2 pending3
     (λ p z. places_next xs i x p h e ∙ or_left (before p) (has_place (ty_view x) p) z)
     (λ p z. places_next xs i x p h e ∙ or_right (before p) (has_place (ty_view x) p) z)
     (λ p z. or_cases (before p) (has_place (ty_view x) p) (sym (places_next xs i x p h e) ∙ z))

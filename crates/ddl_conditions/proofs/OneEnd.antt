@@ -20,7 +20,8 @@ pub heads_stay : (ts : List Ty) (f g h : Sub) (hs : List Head) → Follows g f h
 heads_stay [] f g h hs e k = k
 heads_stay (t ∷ ts) f g h hs e k = by_parts (heads_stay ts f g h) (head (on t f)) (heads_of ts f) refl refl k
   where
-    by_parts : ((us : List Head) → Follows g f h → heads_of ts f ≡ Some us → heads_of ts g ≡ Some us) → (x : Option Head) (y : Option (List Head)) → head (on t f) ≡ x → heads_of ts f ≡ y → add_head x y ≡ Some hs → add_head (head (on t g)) (heads_of ts g) ≡ Some hs
+    by_parts : ((us : List Head) → Follows g f h → heads_of ts f ≡ Some us → heads_of ts g ≡ Some us) → (x : Option Head) (y : Option (List Head))
+        → head (on t f) ≡ x → heads_of ts f ≡ y → add_head x y ≡ Some hs → add_head (head (on t g)) (heads_of ts g) ≡ Some hs
     by_parts later None y p q z = let w : None ≡ Some hs = z in absurd (cc)
     by_parts later (Some c) None p q z = let w : None ≡ Some hs = z in absurd (cc)
     by_parts later (Some c) (Some us) p q z =
@@ -55,14 +56,16 @@ same_tail : (x y : Asked) (xs ys : List Asked) → x ∷ xs ≡ y ∷ ys → xs 
 same_tail x y xs ys e = cc
 
 -- the first one of a kind is one
-first_one : (P Q : Asked → Type 0) → ((x : Asked) → P x → Q x) → ((x : Asked) → Q x → P x) → (a b : List Asked) (x y : Asked) (c d : List Asked) → a ++ (x ∷ c) ≡ b ++ (y ∷ d) → All (λ z. P z → ⊥) a → P x → All (λ z. Q z → ⊥) b → Q y → (x ≡ y) × (a ++ c ≡ b ++ d)
+first_one : (P Q : Asked → Type 0) → ((x : Asked) → P x → Q x) → ((x : Asked) → Q x → P x) → (a b : List Asked) (x y : Asked) (c d : List Asked)
+    → a ++ (x ∷ c) ≡ b ++ (y ∷ d) → All (λ z. P z → ⊥) a → P x → All (λ z. Q z → ⊥) b → Q y → (x ≡ y) × (a ++ c ≡ b ++ d)
 first_one P Q p q [] [] x y c d e na px nb qy = (same_head x y c d e, same_tail x y c d e)
 first_one P Q p q [] (z ∷ b) x y c d e na px nb qy =
     absurd (All-head (λ w. Q w → ⊥) z b nb (subst Q (same_head x z c (b ++ (y ∷ d)) e) (p x px)))
 first_one P Q p q (z ∷ a) [] x y c d e na px nb qy =
     absurd (All-head (λ w. P w → ⊥) z a na (subst P (sym (same_head z y (a ++ (x ∷ c)) d e)) (q y qy)))
 first_one P Q p q (z ∷ a) (w ∷ b) x y c d e na px nb qy =
-    let i = first_one P Q p q a b x y c d (same_tail z w (a ++ (x ∷ c)) (b ++ (y ∷ d)) e) (All-tail (λ w. P w → ⊥) z a na) px (All-tail (λ w. Q w → ⊥) w b nb) qy in
+    let i = first_one P Q p q a b x y c d (same_tail z w (a ++ (x ∷ c)) (b ++ (y ∷ d)) e) (All-tail (λ w. P w → ⊥) z a na) px (All-tail (λ w. Q w → ⊥) w b nb)
+    qy in
     let k = same_head z w (a ++ (x ∷ c)) (b ++ (y ∷ d)) e in
     (i.0, ap (λ s. s ∷ (a ++ c)) k ∙ ap (λ s. w ∷ s) i.1)
 
@@ -73,32 +76,45 @@ some_type : (x y : Ty) → Some x ≡ Some y → x ≡ y
 some_type x y e = cc
 
 abbrev after_turn : Group → State → Asked → List Head → List Asked → State
-after_turn g s a hs rest = record { added = s.added ++ added_at a.span (gives g.shapes a.what hs s.next).equations; waiting = rest; next = s.next + (gives g.shapes a.what hs s.next).vars }
+after_turn g s a hs rest = record {
+  added = s.added ++ added_at a.span (gives g.shapes a.what hs s.next).equations;
+  waiting = rest;
+  next =
+      s.next + (gives g.shapes a.what hs s.next).vars;
+}
 
 abbrev after_int : State → Asked → Ty → State
 after_int s a t = record { added = s.added ++ added_at a.span (equal (con int none) t ∷ []); waiting = s.waiting; next = s.next }
 
 -- a step leads to one state
-one_step : (g : Group) (es : List Equation) (f k : Sub) (s t u : State) → MostGeneral (equations es s) f → MostGeneral (equations es s) k → Step g f s t → Step g k s u → t ≡ u
+one_step : (g : Group) (es : List Equation) (f k : Sub) (s t u : State) → MostGeneral (equations es s) f → MostGeneral (equations es s) k → Step g f s t
+    → Step g k s u → t ≡ u
 one_step g es f k s t u m n (adding a hs before after split wait known) (adding b is front back split2 wait2 known2) =
-    let i = first_one (IsReady f) (IsReady k) (λ x. ready_agrees (equations es s) f k x m n) (λ x. ready_agrees (equations es s) k f x n m) before front a b after back (sym split ∙ split2) wait (record { heads = hs; known = known }) wait2 (record { heads = is; known = known2 }) in
+    let i = first_one (IsReady f) (IsReady k) (λ x. ready_agrees (equations es s) f k x m n) (λ x. ready_agrees (equations es s) k f x n m) before front a b
+    after back (sym split ∙ split2) wait (record { heads = hs; known = known }) wait2 (record { heads = is; known = known2 }) in
     let r = ready_agrees (equations es s) f k a m n (record { heads = hs; known = known }) in
     let q : heads_of (subjects a.what) k ≡ Some hs = (let w = follows (equations es s) f k m n in heads_stay (subjects a.what) f k w.0 hs w.1 known) in
     let j : hs ≡ is = some_heads hs is (sym q ∙ ap (λ (x : Asked). heads_of (subjects x.what) k) i.0 ∙ known2) in
     ap (λ x. after_turn g s x hs (before ++ after)) i.0 ∙ ap (λ x. after_turn g s b x (before ++ after)) j ∙ ap (λ x. after_turn g s b is x) i.1
 one_step g es f k s t u m n (adding a hs before after split wait known) (becoming_int b waits first) =
-    absurd (middle_of (λ x. IsReady k x → ⊥) s.waiting before after a split waits (ready_agrees (equations es s) f k a m n (record { heads = hs; known = known })))
+    absurd (middle_of (λ x. IsReady k x → ⊥) s.waiting before after a split waits
+    (ready_agrees (equations es s) f k a m n (record { heads = hs; known = known })))
 one_step g es f k s t u m n (becoming_int b waits first) (adding a hs before after split wait known) =
-    absurd (middle_of (λ x. IsReady f x → ⊥) s.waiting before after a split waits (ready_agrees (equations es s) k f a n m (record { heads = hs; known = known })))
+    absurd (middle_of (λ x. IsReady f x → ⊥) s.waiting before after a split waits
+    (ready_agrees (equations es s) k f a n m (record { heads = hs; known = known })))
 one_step g es f k s t u m n (becoming_int a waits first) (becoming_int b waits2 first2) =
-    let i = first_one (IsFree g f) (IsFree g k) (λ x. free_agrees g (equations es s) f k x m n) (λ x. free_agrees g (equations es s) k f x n m) first.before first2.before a b first.after first2.after (sym first.split ∙ first2.split) first.none_before first.found first2.none_before first2.found in
-    let j : first.found.of ≡ first2.found.of = some_type first.found.of first2.found.of (sym first.found.number ∙ ap (λ (x : Asked). numbered x.what) i.0 ∙ first2.found.number) in
+    let i = first_one (IsFree g f) (IsFree g k) (λ x. free_agrees g (equations es s) f k x m n) (λ x. free_agrees g (equations es s) k f x n m) first.before
+    first2.before a b first.after first2.after (sym first.split ∙ first2.split) first.none_before first.found first2.none_before first2.found in
+    let j : first.found.of ≡ first2.found.of = some_type first.found.of first2.found.of (sym first.found.number ∙ ap (λ (x : Asked). numbered x.what) i.0
+    ∙ first2.found.number) in
     ap (λ x. after_int s x first.found.of) i.0 ∙ ap (λ x. after_int s b x) j
 
 -- where a list is done, there is no step
-no_step : (g : Group) (es : List Equation) (f k : Sub) (s t : State) → MostGeneral (equations es s) f → MostGeneral (equations es s) k → IsDone g f s → Step g k s t → ⊥
+no_step : (g : Group) (es : List Equation) (f k : Sub) (s t : State) → MostGeneral (equations es s) f → MostGeneral (equations es s) k → IsDone g f s
+    → Step g k s t → ⊥
 no_step g es f k s t m n done (adding a hs before after split wait known) =
-    middle_of (λ x. IsReady f x → ⊥) s.waiting before after a split done.none_ready (ready_agrees (equations es s) k f a n m (record { heads = hs; known = known }))
+    middle_of (λ x. IsReady f x → ⊥) s.waiting before after a split done.none_ready
+    (ready_agrees (equations es s) k f a n m (record { heads = hs; known = known }))
 no_step g es f k s t m n done (becoming_int a waits first) =
     middle_of (λ x. IsFree g f x → ⊥) g.asked first.before first.after a first.split done.none_free (free_agrees g (equations es s) k f a n m first.found)
 

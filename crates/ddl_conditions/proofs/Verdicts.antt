@@ -3,7 +3,8 @@ use Rattle.std.proofs.Common.{◌≡◌, refl, sym, ap, ◌∙◌}
 use Rattle.ddl_types.specs.Types.{Ty, Ty.var, Ty.con, on}
 use Rattle.ddl_types.specs.Conditions.{num, word, lit, key, lossless, cut, fit, cat, field, tag, loops}
 use Rattle.ddl_judging.specs.Demands.{Demand, condition, make, gather}
-use Rattle.ddl_judging.specs.Judging.{Casting, keeps, loses, has_gap, if_equal, casting, IsCast, IsEqual, same, later, never, IsLossless, IsUnknown, itself, unknown, Judged, Verdict, holds, undecided, false_for, Wrong}
+use Rattle.ddl_judging.specs.Judging.{Casting, keeps, loses, has_gap, if_equal, casting, IsCast, IsEqual, same, later, never, IsLossless, IsUnknown, itself}
+use Rattle.ddl_judging.specs.Judging.{unknown, Judged, Verdict, holds, undecided, false_for, Wrong}
 use Rattle.ddl_judging.specs.Shapes.{Shapes}
 
 one_equal : (s t : Ty) (v w : Verdict) → IsEqual s t v → IsEqual s t w → v ≡ w

@@ -19,7 +19,9 @@ IsSettled g es n accepted f ks = ((s : State) × IsEnd g es n s accepted f) × A
 -- it is refused: by an equation that is added, the first that those before it do not allow; or, where the list has grown to its
 -- end, by a demand
 abbrev pub IsUnsettled : Group → List Equation → ℕ → List Equation → Sub → SettleError → Type 0
-IsUnsettled g es n accepted f (e.Clash span l r) = (q : Equation) × IsRefused g es n accepted (record { equation = q; span = span }) × Clashes accepted f q (ty_view l) (ty_view r)
-IsUnsettled g es n accepted f (e.Endless span v x) = (q : Equation) × IsRefused g es n accepted (record { equation = q; span = span }) × AreHeld v (ty_view x) f q.left q.right
+IsUnsettled g es n accepted f (e.Clash span l r) = (q : Equation) × IsRefused g es n accepted (record { equation = q; span = span })
+    × Clashes accepted f q (ty_view l) (ty_view r)
+IsUnsettled g es n accepted f (e.Endless span v x) = (q : Equation) × IsRefused g es n accepted (record { equation = q; span = span })
+    × AreHeld v (ty_view x) f q.left q.right
 IsUnsettled g es n accepted f e.NoMemory = Unit {0}
 IsUnsettled g es n accepted f err = ((s : State) × IsEnd g es n s accepted f) × IsUnmet g f err

@@ -57,8 +57,14 @@ pub record IsFree (g : Group) (f : Sub) (a : Asked) : Type 0 where
 
 -- the first demand in text order that is ready adds its equations; where none is, the first variable of numbers becomes `int`
 pub data Step (g : Group) (f : Sub) (s : State) : State → Type 0 where
-  adding : (a : Asked) (hs : List Head) (before after : List Asked) → s.waiting ≡ before ++ a ∷ after → All (λ b. IsReady f b → ⊥) before → heads_of (subjects a.what) f ≡ Some hs
-      → Step g f s (record { added = s.added ++ added_at a.span (gives g.shapes a.what hs s.next).equations; waiting = before ++ after; next = s.next + (gives g.shapes a.what hs s.next).vars })
+  adding : (a : Asked) (hs : List Head) (before after : List Asked) → s.waiting ≡ before ++ a ∷ after → All (λ b. IsReady f b → ⊥) before
+      → heads_of (subjects a.what) f ≡ Some hs
+      → Step g f s (record {
+        added = s.added ++ added_at a.span (gives g.shapes a.what hs s.next).equations;
+        waiting = before ++ after;
+        next =
+            s.next + (gives g.shapes a.what hs s.next).vars;
+      })
   becoming_int : (a : Asked) → All (λ b. IsReady f b → ⊥) s.waiting → (first : FirstOf (IsFree g f) g.asked a)
       → Step g f s (record { added = s.added ++ added_at a.span (equal (con int none) first.found.of ∷ []); waiting = s.waiting; next = s.next })
 

@@ -23,7 +23,8 @@ abbrev mutual
 -- stands in one of them as it is solved
 pub data Shows (ss : Shapes) (roots : List Ty) (f : Sub) : Ty → Type 0 where
   root : {t : Ty} → Contains roots t → Shows ss roots f t
-  inner : {t u : Ty} (p : ℕ) → Shows ss roots f t → has_place (on t f) p ≡ true → (place_at ss.places p).vars ≡ 0 → Contains (place_at ss.places p).types u → Shows ss roots f u
+  inner : {t u : Ty} (p : ℕ) → Shows ss roots f t → has_place (on t f) p ≡ true → (place_at ss.places p).vars ≡ 0 → Contains (place_at ss.places p).types u
+      → Shows ss roots f u
 
 -- a variable that stands in one of them
 pub record Stands (ss : Shapes) (roots : List Ty) (f : Sub) (v : ℕ) : Type 0 where

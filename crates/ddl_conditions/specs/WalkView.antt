@@ -9,4 +9,11 @@ use Rattle.ddl_judging.specs.Views.{asked_view}
 use Rattle.ddl_conditions.specs.Walking.{Place}
 
 abbrev pub place : (List Pair × List Bound × ℕ) → Walk → Place
-place z w = record { solver = solved z; behind = map (λ a. asked_view a.now) w.behind.items; ahead = map asked_view w.ahead.now; checked = w.checked; numbers = map asked_view w.numbers.now }
+place z w = record {
+  solver = solved z;
+  behind = map (λ a. asked_view a.now) w.behind.items;
+  ahead = map asked_view w.ahead.now;
+  checked = w.checked;
+  numbers =
+      map asked_view w.numbers.now;
+}

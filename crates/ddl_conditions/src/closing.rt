@@ -35,7 +35,8 @@ pub(crate) fn close(
     group: &Group<'_>,
 ) -> Result<Vec<usize>, SettleError>
     requires below { All (λ a. DemandBelow (variables solver.now) a.what) (group_view group.now).asked }
-    ensures { MatchResult result (λ ks. AreKept (group_view group.now) (solution solver.now) 0 (group_view group.now).asked ks.items) (IsUnmet (group_view group.now) (solution solver.now)) }
+    ensures { MatchResult result (λ ks. AreKept (group_view group.now) (solution solver.now) 0
+        (group_view group.now).asked ks.items) (IsUnmet (group_view group.now) (solution solver.now)) }
 {
     let mut kept = Vec::new(alloc);
     let mut left = None;
@@ -59,8 +60,11 @@ fn close_one(
 ) -> Result<(), SettleError>
     requires within { place < length group.now.asked.now }
     requires below { All (λ a. DemandBelow (variables solver.now) a.what) (group_view group.now).asked }
-    requires closing { IsClosing (group_view group.now) (solution solver.now) (take place (group_view group.now).asked) kept.old.items left.old }
-    ensures { MatchResult result (λ _. IsClosing (group_view group.now) (solution solver.now) (take (place + 1) (group_view group.now).asked) kept.new.items left.new) (IsUnmet (group_view group.now) (solution solver.now)) }
+    requires closing { IsClosing (group_view group.now) (solution solver.now) (take place (group_view group.now).asked)
+        kept.old.items left.old }
+    ensures { MatchResult result (λ _. IsClosing (group_view group.now) (solution solver.now)
+        (take (place + 1) (group_view group.now).asked) kept.new.items left.new)
+        (IsUnmet (group_view group.now) (solution solver.now)) }
 {
     let asked = &group.asked[place];
     match fate_of(alloc, solver, group, asked)? {

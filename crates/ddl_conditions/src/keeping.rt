@@ -30,7 +30,8 @@ pub(crate) fn is_kept(
     group: &Group<'_>,
     asked: &Asked,
 ) -> Result<bool, NoMemory>
-    requires { Judged (group_view group.now).shapes (on_demand (solution solver.now) (demand_view asked.now.what)) undecided }
+    requires { Judged (group_view group.now).shapes (on_demand (solution solver.now) (demand_view asked.now.what))
+        undecided }
     ensures { IfOk result (λ b. Says b (IsKept (group_view group.now) (solution solver.now) (asked_view asked.now))) }
 {
     if !group.with_parameters {
@@ -52,7 +53,8 @@ fn may_keep(
     group: &Group<'_>,
     cond: &Cond,
 ) -> Result<bool, NoMemory>
-    ensures { IfOk result (λ b. Says b (IsKeptForm (group_view group.now) (solution solver.now) (condition (cond_view cond.now)))) }
+    ensures { IfOk result (λ b. Says b (IsKeptForm (group_view group.now) (solution solver.now)
+        (condition (cond_view cond.now)))) }
 {
     match cond {
         Cond::Num(of) | Cond::Word(of) | Cond::Key(of) | Cond::Lit { of, .. } => {
@@ -75,7 +77,9 @@ fn both_stand(
     from: &Ty,
     to: &Ty,
 ) -> Result<bool, NoMemory>
-    ensures { IfOk result (λ b. Says b (AllStand (group_view group.now) (solution solver.now) (has (on (ty_view from.now) (solution solver.now))) × AllStand (group_view group.now) (solution solver.now) (has (on (ty_view to.now) (solution solver.now))))) }
+    ensures { IfOk result (λ b. Says b (AllStand (group_view group.now) (solution solver.now)
+        (has (on (ty_view from.now) (solution solver.now)))
+        × AllStand (group_view group.now) (solution solver.now) (has (on (ty_view to.now) (solution solver.now))))) }
 {
     if !all_stand(alloc, solver, group, from)? {
         return Ok(false);
@@ -86,7 +90,8 @@ fn both_stand(
 
 /// Whether each variable of a type, as it is solved, stands in the types of the group.
 fn all_stand(alloc: Global, solver: &Solver, group: &Group<'_>, t: &Ty) -> Result<bool, NoMemory>
-    ensures { IfOk result (λ b. Says b (AllStand (group_view group.now) (solution solver.now) (has (on (ty_view t.now) (solution solver.now))))) }
+    ensures { IfOk result (λ b. Says b (AllStand (group_view group.now) (solution solver.now)
+        (has (on (ty_view t.now) (solution solver.now))))) }
 {
     let read = solver.read(t)?;
     let stand = each_stands(alloc, solver, group, &read)?;
@@ -135,7 +140,8 @@ fn each_stands_in(
     group: &Group<'_>,
     ts: &[Ty],
 ) -> Result<bool, NoMemory>
-    ensures { IfOk result (λ b. Says b (AllStand (group_view group.now) (solution solver.now) (has_all (tys_of (map ty_view ts.now))))) }
+    ensures { IfOk result (λ b. Says b (AllStand (group_view group.now) (solution solver.now)
+        (has_all (tys_of (map ty_view ts.now))))) }
 {
     for t in ts {
         if !each_stands(alloc, solver, group, t)? {

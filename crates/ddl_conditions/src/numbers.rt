@@ -28,7 +28,9 @@ pub(crate) fn free_number<'a>(
     group: &Group<'_>,
     asked: &'a Asked,
 ) -> Result<Option<&'a Ty>, NoMemory>
-    ensures { IfOk result (λ o. MatchOption o (IsFree (group_view group.now) (solution solver.now) (asked_view asked.now) → ⊥) (λ t. IsFreeAt (group_view group.now) (solution solver.now) (asked_view asked.now) (ty_view t.now))) }
+    ensures { IfOk result (λ o. MatchOption o
+        (IsFree (group_view group.now) (solution solver.now) (asked_view asked.now)
+        → ⊥) (λ t. IsFreeAt (group_view group.now) (solution solver.now) (asked_view asked.now) (ty_view t.now))) }
 {
     let Some(of) = numbered(&asked.what) else {
         return Ok(None);
@@ -42,7 +44,8 @@ pub(crate) fn free_number<'a>(
 
 /// The type of a demand that has to be of numbers.
 fn numbered(what: &Demand) -> Option<&Ty>
-    ensures { MatchOption result (numbered (demand_view what.now) ≡ None) (λ t. numbered (demand_view what.now) ≡ Some (ty_view t.now)) }
+    ensures { MatchOption result (numbered (demand_view what.now) ≡ None) (λ t.
+        numbered (demand_view what.now) ≡ Some (ty_view t.now)) }
 {
     match what {
         Demand::Cond(cond) => numbered_by(cond),
@@ -53,7 +56,8 @@ fn numbered(what: &Demand) -> Option<&Ty>
 
 /// The type of a condition that has to be of numbers.
 fn numbered_by(cond: &Cond) -> Option<&Ty>
-    ensures { MatchOption result (numbered (condition (cond_view cond.now)) ≡ None) (λ t. numbered (condition (cond_view cond.now)) ≡ Some (ty_view t.now)) }
+    ensures { MatchOption result (numbered (condition (cond_view cond.now)) ≡ None) (λ t.
+        numbered (condition (cond_view cond.now)) ≡ Some (ty_view t.now)) }
 {
     match cond {
         Cond::Num(of) => Some(of),
@@ -99,7 +103,8 @@ fn is_kept(
     group: &Group<'_>,
     variable: u32,
 ) -> Result<bool, NoMemory>
-    ensures { IfOk result (λ b. Says b ((group.now.with_parameters ≡ true) × Stands (group_view group.now).shapes (group_view group.now).roots (solution solver.now) variable)) }
+    ensures { IfOk result (λ b. Says b ((group.now.with_parameters ≡ true)
+        × Stands (group_view group.now).shapes (group_view group.now).roots (solution solver.now) variable)) }
 {
     if !group.with_parameters {
         return Ok(false);

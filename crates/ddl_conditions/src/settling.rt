@@ -30,7 +30,10 @@ pub fn settle(
     requires below { All (λ a. DemandBelow (variables solver.old) a.what) (group_view group.now).asked }
     requires shapes { AreShapes (variables solver.old) (group_view group.now).shapes }
     ensures most { MostGeneral (accepted solver.new) (solution solver.new) }
-    ensures settled { MatchResult result (λ ks. IsSettled (group_view group.now) (accepted solver.old) (variables solver.old) (accepted solver.new) (solution solver.new) ks.items) (IsUnsettled (group_view group.now) (accepted solver.old) (variables solver.old) (accepted solver.new) (solution solver.new)) }
+    ensures settled { MatchResult result (λ ks.
+        IsSettled (group_view group.now) (accepted solver.old) (variables solver.old) (accepted solver.new)
+        (solution solver.new) ks.items) (IsUnsettled (group_view group.now) (accepted solver.old) (variables solver.old)
+        (accepted solver.new) (solution solver.new)) }
     ensures given { IfOk result (λ _. HaveGiven (group_view group.now) (solution solver.new)) }
 {
     is_solved(solver);
@@ -46,7 +49,10 @@ fn grow(alloc: Global, solver: &mut Solver, group: &Group<'_>) -> Result<(), Set
     requires shapes { AreShapes (variables solver.old) (group_view group.now).shapes }
     ensures most { MostGeneral (accepted solver.new) (solution solver.new) }
     ensures below { IfOk result (λ _. All (λ a. DemandBelow (variables solver.new) a.what) (group_view group.now).asked) }
-    ensures grown { MatchResult result (λ _. HasGrown (group_view group.now) (accepted solver.old) (variables solver.old) (solved solver.new)) (IsCut (group_view group.now) (accepted solver.old) (variables solver.old) (accepted solver.new) (solution solver.new)) }
+    ensures grown { MatchResult result (λ _.
+        HasGrown (group_view group.now) (accepted solver.old) (variables solver.old) (solved solver.new))
+        (IsCut (group_view group.now) (accepted solver.old) (variables solver.old) (accepted solver.new)
+        (solution solver.new)) }
 {
     let mut walk = Walk::over(alloc, group.asked);
     loop {

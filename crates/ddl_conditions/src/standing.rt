@@ -24,7 +24,8 @@ pub(crate) fn stands(
     roots: &[Ty],
     variable: u32,
 ) -> Result<bool, NoMemory>
-    ensures { IfOk result (λ b. Says b (Stands (shapes_view shapes.now) (map ty_view roots.now) (solution solver.now) variable)) }
+    ensures { IfOk result (λ b. Says b (Stands (shapes_view shapes.now) (map ty_view roots.now) (solution solver.now)
+        variable)) }
 {
     let mut seen = none_seen(alloc, shapes.places.len())?;
     let found = search(alloc, solver, shapes, roots, variable, &mut seen)?;
@@ -41,7 +42,8 @@ fn search(
     seen: &mut [bool],
 ) -> Result<bool, NoMemory>
     requires { seen.old ≡ replicate (length shapes.now.places.items) false }
-    ensures { IfOk result (λ b. Says b (Stands (shapes_view shapes.now) (map ty_view roots.now) (solution solver.now) variable)) }
+    ensures { IfOk result (λ b. Says b (Stands (shapes_view shapes.now) (map ty_view roots.now) (solution solver.now)
+        variable)) }
 {
     let mut pending = Vec::new(alloc);
     if stands_in(solver, roots, variable, seen, &mut pending)? {
@@ -88,7 +90,8 @@ fn stands_in(
     seen: &mut [bool],
     pending: &mut Vec<u32>,
 ) -> Result<bool, NoMemory>
-    ensures { IfOk result (λ b. AreRead b (solution solver.now) variable (map ty_view types.now) seen.old seen.new pending.old.items pending.new.items) }
+    ensures { IfOk result (λ b. AreRead b (solution solver.now) variable (map ty_view types.now) seen.old seen.new
+        pending.old.items pending.new.items) }
 {
     for t in types {
         if stands_at(solver, t, variable, seen, pending)? {
@@ -106,7 +109,8 @@ fn stands_at(
     seen: &mut [bool],
     pending: &mut Vec<u32>,
 ) -> Result<bool, NoMemory>
-    ensures { IfOk result (λ b. IsRead b (solution solver.now) variable (ty_view t.now) seen.old seen.new pending.old.items pending.new.items) }
+    ensures { IfOk result (λ b. IsRead b (solution solver.now) variable (ty_view t.now) seen.old seen.new
+        pending.old.items pending.new.items) }
 {
     let read = solver.read(t)?;
     if holds(&read, variable) {

@@ -1,7 +1,8 @@
 //! The walk over the demands of a group: those that can add their equations do so in text order, and
 //! where none can, the first free number becomes `int`.
 
-ghost use Rattle.std.specs.Prelude.{◌≡◌, ◌++◌, ◌∷◌, [], All, IfOk, MatchResult, MatchOption, map, length, take, drop, ◌<◌, ◌+◌, true, false};
+ghost use Rattle.std.specs.Prelude.{◌≡◌, ◌++◌, ◌∷◌, [], All, IfOk, MatchResult, MatchOption, map, length, take, drop};
+ghost use Rattle.std.specs.Prelude.{◌<◌, ◌+◌, true, false};
 ghost use Rattle.ddl_types.specs.Types as types;
 ghost use Rattle.ddl_unify.specs.Equations.{MostGeneral, equal};
 ghost use Rattle.ddl_unify.specs.Refused.{Refused};
@@ -61,7 +62,9 @@ impl<'a> Walk<'a> {
     ) -> Result<bool, SettleError>
         requires { Fits (group_view group.now) (place solver.old self.old) }
         ensures most { MostGeneral (accepted solver.new) (solution solver.new) }
-        ensures step { MatchResult result (λ b. IsStep b (group_view group.now) (place solver.old self.old) (place solver.new self.new)) (Stops (group_view group.now) (place solver.old self.old) (solved solver.new)) }
+        ensures step { MatchResult result (λ b.
+            IsStep b (group_view group.now) (place solver.old self.old) (place solver.new self.new))
+            (Stops (group_view group.now) (place solver.old self.old) (solved solver.new)) }
     {
         if !self.checked {
             self.look_behind(alloc, solver, group)?;
@@ -88,7 +91,9 @@ impl<'a> Walk<'a> {
         requires fits { Fits (group_view group.now) (place solver.old self.old) }
         requires unchecked { self.old.checked ≡ false }
         ensures most { MostGeneral (accepted solver.new) (solution solver.new) }
-        ensures step { MatchResult result (λ _. IsStep true (group_view group.now) (place solver.old self.old) (place solver.new self.new)) (Stops (group_view group.now) (place solver.old self.old) (solved solver.new)) }
+        ensures step { MatchResult result (λ _.
+            IsStep true (group_view group.now) (place solver.old self.old) (place solver.new self.new))
+            (Stops (group_view group.now) (place solver.old self.old) (solved solver.new)) }
     {
         match first_turn(alloc, solver, group, &self.behind)? {
             Some(at) => {
@@ -115,7 +120,9 @@ impl<'a> Walk<'a> {
         requires checked { self.old.checked ≡ true }
         requires ahead { self.old.ahead.now ≡ asked.now ∷ others.now }
         ensures most { MostGeneral (accepted solver.new) (solution solver.new) }
-        ensures step { MatchResult result (λ _. IsStep true (group_view group.now) (place solver.old self.old) (place solver.new self.new)) (Stops (group_view group.now) (place solver.old self.old) (solved solver.new)) }
+        ensures step { MatchResult result (λ _.
+            IsStep true (group_view group.now) (place solver.old self.old) (place solver.new self.new))
+            (Stops (group_view group.now) (place solver.old self.old) (solved solver.new)) }
     {
         self.ahead = others;
         if !may_add(&asked.what) {
@@ -136,7 +143,8 @@ impl<'a> Walk<'a> {
 
     /// Puts a demand behind.
     fn wait(&mut self, asked: &'a Asked) -> Result<(), NoMemory>
-        ensures behind { IfOk result (λ _. map (λ a. asked_view a.now) self.new.behind.items ≡ map (λ a. asked_view a.now) self.old.behind.items ++ asked_view asked.now ∷ []) }
+        ensures behind { IfOk result (λ _. map (λ a. asked_view a.now) self.new.behind.items
+            ≡ map (λ a. asked_view a.now) self.old.behind.items ++ asked_view asked.now ∷ []) }
         ensures ahead { self.new.ahead ≡ self.old.ahead }
         ensures checked { self.new.checked ≡ self.old.checked }
         ensures numbers { self.new.numbers ≡ self.old.numbers }
@@ -159,7 +167,9 @@ impl<'a> Walk<'a> {
         requires ahead { self.old.ahead.now ≡ [] }
         requires numbers { self.old.numbers.now ≡ asked.now ∷ others.now }
         ensures most { MostGeneral (accepted solver.new) (solution solver.new) }
-        ensures step { MatchResult result (λ _. IsStep true (group_view group.now) (place solver.old self.old) (place solver.new self.new)) (Stops (group_view group.now) (place solver.old self.old) (solved solver.new)) }
+        ensures step { MatchResult result (λ _.
+            IsStep true (group_view group.now) (place solver.old self.old) (place solver.new self.new))
+            (Stops (group_view group.now) (place solver.old self.old) (solved solver.new)) }
     {
         self.numbers = others;
         let Some(of) = free_number(alloc, solver, group, asked)? else {
@@ -177,7 +187,8 @@ impl<'a> Walk<'a> {
 
 /// The refusal of an equation, at its place.
 fn refused(span: Span, error: EquateError) -> SettleError
-    ensures { (z : Solved) (l r : types.Ty) → Refused error z.accepted z.solution l r → IsRefusal result span z (equal l r) }
+    ensures { (z : Solved) (l r : types.Ty) → Refused error z.accepted z.solution l r
+        → IsRefusal result span z (equal l r) }
 {
     match error {
         EquateError::Clash(left, right) => SettleError::Clash { span, left, right },
@@ -217,7 +228,12 @@ fn first_turn(
     requires shapes { AreShapes (variables solver.old) (group_view group.now).shapes }
     ensures most { MostGeneral (accepted solver.new) (solution solver.new) }
     ensures within { IfOk result (λ o. MatchOption o (Unit {0}) (λ i. i < length behind.now)) }
-    ensures turn { MatchResult result (λ o. MatchOption o ((solved solver.new ≡ solved solver.old) × Wait (solution solver.old) (map (λ a. asked_view a.now) behind.now)) (λ i. HasTurn (group_view group.now) (map (λ a. asked_view a.now) behind.now) (map (λ a. asked_view a.now) (take i behind.now ++ drop (i + 1) behind.now)) (solved solver.old) (solved solver.new))) (HasNoTurn (group_view group.now) (map (λ a. asked_view a.now) behind.now) (solved solver.old) (solved solver.new)) }
+    ensures turn { MatchResult result (λ o. MatchOption o ((solved solver.new ≡ solved solver.old)
+        × Wait (solution solver.old) (map (λ a. asked_view a.now) behind.now)) (λ i.
+        HasTurn (group_view group.now) (map (λ a. asked_view a.now) behind.now)
+        (map (λ a. asked_view a.now) (take i behind.now ++ drop (i + 1) behind.now)) (solved solver.old)
+        (solved solver.new))) (HasNoTurn (group_view group.now) (map (λ a. asked_view a.now) behind.now)
+        (solved solver.old) (solved solver.new)) }
 {
     for (i, asked) in behind.iter().enumerate() {
         match take_turn(alloc, solver, group.shapes, asked)? {

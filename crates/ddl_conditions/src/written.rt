@@ -93,7 +93,8 @@ pub(crate) fn mark_places(t: &Ty, seen: &mut [bool], pending: &mut Vec<u32>) -> 
 #[cycle(mark_places)]
 #[tactic(auto, using(ddl_types::proofs::TyLayers::layers))]
 fn mark_all(ts: &[Ty], seen: &mut [bool], pending: &mut Vec<u32>) -> Result<(), NoMemory>
-    ensures { OnOk result (Noted (λ p. has_place_all (tys_of (map ty_view ts.now)) p ≡ true) seen.old seen.new pending.old.items pending.new.items) }
+    ensures { OnOk result (Noted (λ p. has_place_all (tys_of (map ty_view ts.now)) p ≡ true) seen.old seen.new
+        pending.old.items pending.new.items) }
 {
     for t in ts {
         mark_places(t, seen, pending)?;

@@ -42,7 +42,8 @@ module _ (l l' : Lower) (h : LowerGrows l l') where
     core_grows (attempt ty g k r) current env s =
         at_tick (attempt_grows _ _ (leave_grows (core_grows g outside env s)) (λ v t. core_grows k current (v ∷ env) t) (core_grows r current env s))
     core_grows (call f xs) current env s = at_tick (then_parse_grows _ _ (rises_same _) (λ vs. leave_grows (h.call f vs s)))
-    core_grows (case_ x as_ other) current env s = at_tick (then_parse_grows _ _ (rises_same _) (λ v. case_grows as_ v current env s (core_grows other current env s)))
+    core_grows (case_ x as_ other) current env s = at_tick
+        (then_parse_grows _ _ (rises_same _) (λ v. case_grows as_ v current env s (core_grows other current env s)))
     core_grows (loop tys xs body) current env s = then_parse_grows _ _ (rises_same _) (λ vs. h.turn body env vs s)
     core_grows (again xs) current env s = then_parse_grows _ _ (rises_same _) (λ vs. next_grows current vs s)
     core_grows (inside d g) current env s = core_grows g current env s
@@ -50,12 +51,14 @@ module _ (l l' : Lower) (h : LowerGrows l l') where
     case_grows : (as_ : Alternatives) (v : Value) (current : Current) (env : List Value) (s : Stream) {o o' : Outcome} →
         Grows o o' → Grows (core_case l as_ v current env s o) (core_case l' as_ v current env s o')
     case_grows none_left v current env s k = k
-    case_grows (when p ty g as_) v current env s k = outcome_at_grows (matched p v) _ _ (λ w. core_grows g current (w ∷ env) s) (case_grows as_ v current env s k)
+    case_grows (when p ty g as_) v current env s k = outcome_at_grows (matched p v) _ _ (λ w. core_grows g current (w ∷ env) s)
+        (case_grows as_ v current env s k)
 
 level_grows : (fs : List Function) (n : ℕ) → LowerGrows (level fs n) (level fs (suc n))
 level_grows fs zero = record { call = λ f vs s. at_deep; turn = λ body around vs s. at_deep }
 level_grows fs (suc n) = record {
-  call = λ f vs s. then_parse_grows _ _ (rises_same (given (function_at fs f))) (λ d. core_grows (level fs n) (level fs (suc n)) (level_grows fs n) d.body outside vs s);
+  call = λ f vs s. then_parse_grows _ _ (rises_same (given (function_at fs f))) (λ d.
+      core_grows (level fs n) (level fs (suc n)) (level_grows fs n) d.body outside vs s);
   turn = λ body around vs s. at_tick (core_grows (level fs n) (level fs (suc n)) (level_grows fs n) body (turning body around) (vs ++ around) s);
 }
 

@@ -4,7 +4,8 @@ use Rattle.ddl_base.specs.declared.span.Span.{Span}
 use Rattle.ddl_base.specs.declared.why.Why.{Why}
 use Rattle.ddl_base.specs.declared.why.Why.TheVariants as why
 use Rattle.ddl_types.specs.declared.num.NumType.TheVariants.{Int, Uint}
-use Rattle.ddl_types.specs.Value.{Value, Values, Stream, in_input, number, boolean, unit, nothing, just, fields, tagged, array, mapping, stream, no_values, value, no_fields, field}
+use Rattle.ddl_types.specs.Value.{Value, Values, Stream, in_input, number, boolean, unit, nothing, just, fields, tagged, array, mapping, stream, no_values}
+use Rattle.ddl_types.specs.Value.{value, no_fields, field}
 use Rattle.ddl_types.specs.Value.{no_pairs, pair}
 use Rattle.ddl_types.specs.Outcome.{Outcome, End, Stuck, ends, miss, parsed}
 use Rattle.ddl_ops.specs.Valued.{gives, stuck}
@@ -15,7 +16,8 @@ use Rattle.ddl_ops.specs.declared.operators.Cast.TheVariants as casts
 use Rattle.ddl_ops.specs.declared.operators.Builtin.TheVariants as built
 use Rattle.ddl_ops.specs.declared.operators.Primitive.TheVariants as prim
 use Rattle.ddl_ops.specs.declared.pattern.Pattern.TheVariants as pattern
-use Rattle.ddl_core.specs.Core.{truth, unit_, nothing_, just_, record_, union_, select, prefix_, cast, builtin, truth_of_, count_, first_position, has_position, element_at, key_at, class, fail, no_case, primitive, guard, fits, wrong}
+use Rattle.ddl_core.specs.Core.{truth, unit_, nothing_, just_, record_, union_, select, prefix_, cast, builtin, truth_of_, count_, first_position, has_position}
+use Rattle.ddl_core.specs.Core.{element_at, key_at, class, fail, no_case, primitive, guard, fits, wrong}
 use Rattle.ddl_core.specs.Operations.{applied, performed, position}
 
 abbrev span : Span

@@ -13,7 +13,8 @@ use Rattle.ddl_ops.specs.Numbers.{count_value}
 use Rattle.ddl_ops.specs.Primitives.{byte_value, byte_values}
 use Rattle.ddl_ops.specs.declared.operators.Infix.TheVariants.{Arithmetic}
 use Rattle.ddl_ops.specs.declared.pattern.Pattern.TheVariants.{Number}
-use Rattle.ddl_core.specs.Core.{Form, Function, Core, Operation, give, perform, none, bind, both, attempt, call, case_, loop, again, inside, none_left, when, text, literal, list, infix_, most, push, less_one, next_position, gather, match, match_text, uint8, end}
+use Rattle.ddl_core.specs.Core.{Form, Function, Core, Operation, give, perform, none, bind, both, attempt, call, case_, loop, again, inside, none_left, when}
+use Rattle.ddl_core.specs.Core.{text, literal, list, infix_, most, push, less_one, next_position, gather, match, match_text, uint8, end}
 use Rattle.ddl_core.specs.Meaning.{Run}
 use Rattle.ddl_core.specs.Operations.{applied}
 
@@ -66,24 +67,28 @@ no_value : meant 1 (op_of match []) ab ≡ ticking 2 (ends Stuck)
 no_value = refl
 
 -- a division by zero ends at its span
-divides_by_zero : meant 1 (bind any_type (op_of (literal 1 (Some Int)) []) (bind any_type (op_of (literal 0 (Some Int)) []) (op_of (infix_ (Arithmetic Div)) (1 ∷ 0 ∷ [])))) [] ≡ ticking 4 (ends (Faulted DivZero span))
+divides_by_zero : meant 1 (bind any_type (op_of (literal 1 (Some Int)) [])
+    (bind any_type (op_of (literal 0 (Some Int)) []) (op_of (infix_ (Arithmetic Div)) (1 ∷ 0 ∷ [])))) [] ≡ ticking 4 (ends (Faulted DivZero span))
 divides_by_zero = refl
 
 -- the greater of two counts; what is less than 0 is 0; a position after the last one stays where it is
-greater_count : applied most (value (count_value 3) (value (count_value 5) no_values)) span ≡ applied most (value (count_value 5) (value (count_value 3) no_values)) span
+greater_count : applied most (value (count_value 3) (value (count_value 5) no_values)) span
+    ≡ applied most (value (count_value 5) (value (count_value 3) no_values)) span
 greater_count = refl
 
 less_than_none : applied less_one (value (count_value 0) no_values) span ≡ applied less_one (value (count_value 1) no_values) span
 less_than_none = refl
 
-past_the_last : applied next_position (value (array (byte_values ab)) (value (count_value 2) no_values)) span ≡ applied next_position (value (array (byte_values ab)) (value (count_value 1) no_values)) span
+past_the_last : applied next_position (value (array (byte_values ab)) (value (count_value 2) no_values)) span
+    ≡ applied next_position (value (array (byte_values ab)) (value (count_value 1) no_values)) span
 past_the_last = refl
 
 -- new elements under the keys of a map
 abbrev one_entry : Value → Value
 one_entry v = mapping (pair (byte_value 97) v no_pairs)
 
-gathers : applied gather (value (one_entry (byte_value 1)) (value (array (value (byte_value 2) no_values)) no_values)) span ≡ applied gather (value (one_entry (byte_value 3)) (value (array (value (byte_value 2) no_values)) no_values)) span
+gathers : applied gather (value (one_entry (byte_value 1)) (value (array (value (byte_value 2) no_values)) no_values)) span
+    ≡ applied gather (value (one_entry (byte_value 3)) (value (array (value (byte_value 2) no_values)) no_values)) span
 gathers = refl
 
 -- ---- choices
@@ -93,7 +98,8 @@ none_on_ab : meant 1 none ab ≡ ticking 2 (ends End)
 none_on_ab = refl
 
 -- both sides count, each from the same place
-both_on_ab : meant 1 (both (op_of uint8 []) (op_of (match_text (97 ∷ [])) [])) ab ≡ ticking 3 (parse (byte_value 97) (rest ab 1) (ticking 2 (parsed (array (byte_values (97 ∷ []))) (rest ab 1))))
+both_on_ab : meant 1 (both (op_of uint8 []) (op_of (match_text (97 ∷ [])) [])) ab
+    ≡ ticking 3 (parse (byte_value 97) (rest ab 1) (ticking 2 (parsed (array (byte_values (97 ∷ []))) (rest ab 1))))
 both_on_ab = refl
 
 -- a choice is made as its left side has a parse: what follows it may fail, and the right side does not count
@@ -101,7 +107,8 @@ chosen_then_fails : meant 1 (attempt any_type (op_of uint8 []) none (op_of uint8
 chosen_then_fails = refl
 
 -- "ab", else "ac": the right side begins where the choice began
-ab_or_ac : meant 1 (attempt any_type (op_of (match_text ab) []) (give 0) (op_of (match_text ac) [])) ac ≡ ticking 5 (miss why.Match in_input 1 span (ticking 3 (parsed (array (byte_values ac)) (rest ac 2))))
+ab_or_ac : meant 1 (attempt any_type (op_of (match_text ab) []) (give 0) (op_of (match_text ac) [])) ac
+    ≡ ticking 5 (miss why.Match in_input 1 span (ticking 3 (parsed (array (byte_values ac)) (rest ac 2))))
 ab_or_ac = refl
 
 -- each parse of the left side goes on, with a tick as it leaves
@@ -123,7 +130,8 @@ no_alternative = refl
 
 -- `Many UInt8`: a turn, the choice, the byte, its exit and the push for each byte
 abbrev many_bytes : Form
-many_bytes = bind any_type (op_of list []) (loop (any_type ∷ []) (0 ∷ []) (attempt any_type (op_of uint8 []) (bind any_type (op_of push (1 ∷ 0 ∷ [])) (again (0 ∷ []))) (give 0)))
+many_bytes = bind any_type (op_of list []) (loop (any_type ∷ []) (0 ∷ [])
+    (attempt any_type (op_of uint8 []) (bind any_type (op_of push (1 ∷ 0 ∷ [])) (again (0 ∷ []))) (give 0)))
 
 many_on_ab : meant 4 many_bytes ab ≡ ticking 15 (miss why.Byte in_input 2 span (tick (parsed (array (byte_values ab)) (rest ab 2))))
 many_on_ab = refl
@@ -142,7 +150,11 @@ no_turn_on_the_left = refl
 
 -- a call, with a tick as it begins and one as a parse leaves it
 abbrev calls : Core
-calls = record { functions = function (bind any_type (call 1 []) (bind any_type (op_of end []) (give 1))) ∷ function (inside 0 (op_of uint8 [])) ∷ []; entry = 0 }
+calls = record {
+  functions = function (bind any_type (call 1 []) (bind any_type (op_of end []) (give 1))) ∷ function (inside 0 (op_of uint8 [])) ∷ [];
+  entry =
+      0;
+}
 
 called : Run 2 calls (input (97 ∷ [])) ≡ ticking 6 (parsed (byte_value 97) (rest (97 ∷ []) 1))
 called = refl

@@ -80,11 +80,18 @@ pub single_primitive : (p : Primitive) (vs : Values) (span : Span) (s : Stream) 
 single_primitive GetStream no_values span s = refl
 single_primitive Offset no_values span s = refl
 single_primitive SetStream (value (stream t) no_values) span s = refl
-single_primitive Take (value n (value (stream t) no_values)) span s = then_single (count_of n) (λ j. part_of j t (front j t) why.Take span s) (λ j. single_if (nat_le j (remaining t)) (parsed (stream (front j t)) s) (missed_at why.Take s span) refl tt)
-single_primitive Drop (value n (value (stream t) no_values)) span s = then_single (count_of n) (λ j. part_of j t (behind j t) why.Drop span s) (λ j. single_if (nat_le j (remaining t)) (parsed (stream (behind j t)) s) (missed_at why.Drop s span) refl tt)
-single_primitive Index (value (array vs) (value i no_values)) span s = then_single (count_of i) (λ j. present (element vs j) why.Index span s) (λ j. single_present (element vs j) why.Index span s)
-single_primitive Lookup (value key (value (mapping ps) no_values)) span s = then_single (found key ps) (λ w. present w why.Lookup span s) (λ w. single_present w why.Lookup span s)
-single_primitive Insert (value key (value v (value (mapping ps) no_values))) span s = then_single (found key ps) (λ w. insert_absent w key v ps span s) (λ w. single_absent w key v ps span s)
+single_primitive Take (value n (value (stream t) no_values)) span s =
+    then_single (count_of n) (λ j. part_of j t (front j t) why.Take span s) (λ j.
+    single_if (nat_le j (remaining t)) (parsed (stream (front j t)) s) (missed_at why.Take s span) refl tt)
+single_primitive Drop (value n (value (stream t) no_values)) span s =
+    then_single (count_of n) (λ j. part_of j t (behind j t) why.Drop span s) (λ j.
+    single_if (nat_le j (remaining t)) (parsed (stream (behind j t)) s) (missed_at why.Drop s span) refl tt)
+single_primitive Index (value (array vs) (value i no_values)) span s =
+    then_single (count_of i) (λ j. present (element vs j) why.Index span s) (λ j. single_present (element vs j) why.Index span s)
+single_primitive Lookup (value key (value (mapping ps) no_values)) span s =
+    then_single (found key ps) (λ w. present w why.Lookup span s) (λ w. single_present w why.Lookup span s)
+single_primitive Insert (value key (value v (value (mapping ps) no_values))) span s =
+    then_single (found key ps) (λ w. insert_absent w key v ps span s) (λ w. single_absent w key v ps span s)
 single_primitive p vs span s = tt
 
 pub single_fitted : (f : Fit) (span : Span) (s : Stream) → Single (fitted f span s)

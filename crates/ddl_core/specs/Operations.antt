@@ -3,7 +3,8 @@ use Rattle.std.specs.Prelude.{ℕ, zero, suc, ◌-◌, max, nat_lt, if◌then◌
 use Rattle.ddl_base.specs.declared.span.Span.{Span}
 use Rattle.ddl_base.specs.declared.why.Why.TheVariants as why
 use Rattle.ddl_types.specs.declared.num.NumType.TheVariants.{Uint}
-use Rattle.ddl_types.specs.Value.{Value, Values, Fields, Pairs, Stream, number, boolean, unit, nothing, just, tagged, array, mapping, no_values, value, no_fields, no_pairs, pair}
+use Rattle.ddl_types.specs.Value.{Value, Values, Fields, Pairs, Stream, number, boolean, unit, nothing, just, tagged, array, mapping, no_values, value}
+use Rattle.ddl_types.specs.Value.{no_fields, no_pairs, pair}
 use Rattle.ddl_types.specs.Value as values
 use Rattle.ddl_types.specs.Outcome.{Outcome, parsed}
 use Rattle.ddl_ops.specs.Valued.{Given, Valued, gives, stuck, given, then_value, then_parse}
@@ -16,7 +17,9 @@ use Rattle.ddl_ops.specs.Primitives.{byte_values, one_byte, at_end, match_bytes,
 use Rattle.ddl_ops.specs.ByteSets.{class_byte}
 use Rattle.ddl_ops.specs.Patterns.{guarded}
 use Rattle.ddl_ops.specs.Arrays.{size, element, snoc}
-use Rattle.ddl_core.specs.Core.{Operation, text, literal, truth, unit_, nothing_, just_, list, record_, union_, select, infix_, prefix_, cast, builtin, truth_of_, count_, most, push, less_one, first_position, has_position, element_at, key_at, next_position, gather, uint8, match_text, match, end, class, fail, no_case, primitive, guard, fits}
+use Rattle.ddl_core.specs.Core.{Operation, text, literal, truth, unit_, nothing_, just_, list, record_, union_, select, infix_, prefix_, cast, builtin}
+use Rattle.ddl_core.specs.Core.{truth_of_, count_, most, push, less_one, first_position, has_position, element_at, key_at, next_position, gather, uint8}
+use Rattle.ddl_core.specs.Core.{match_text, match, end, class, fail, no_case, primitive, guard, fits}
 
 -- the fields of a record by their names
 abbrev pub named_fields : List (List ℕ) → Values → Given Fields
@@ -105,7 +108,8 @@ applied first_position no_values span = gives (position 0)
 applied has_position (value w (value i no_values)) span = then_value (elements_count w) (λ n. then_value (position_of i) (λ k. gives (boolean (nat_lt k n))))
 applied element_at (value w (value i no_values)) span = then_value (position_of i) (λ k. element_there w k)
 applied key_at (value w (value i no_values)) span = then_value (position_of i) (λ k. key_there w k)
-applied next_position (value w (value i no_values)) span = then_value (elements_count w) (λ n. then_value (position_of i) (λ k. gives (position (if nat_lt k n then suc k else k))))
+applied next_position (value w (value i no_values)) span =
+    then_value (elements_count w) (λ n. then_value (position_of i) (λ k. gives (position (if nat_lt k n then suc k else k))))
 applied gather (value w (value (array ws) no_values)) span = gathered_as w ws
 applied op vs span = stuck
 

@@ -35,7 +35,8 @@ pub need_here : (f : Frame) (fs : List Frame) → need_expr (f ∷ fs) ≡ hole_
 need_here (m.in_array s [] n) fs = refl
 need_here f fs = refl
 
-pub view-split : (xs : List code_frame.Frame) (f : code_frame.Frame) (rest : List code_frame.Frame) → xs ≡ rest ++ f ∷ [] → stack_view xs [] ≡ frame_view f ∷ stack_view rest []
+pub view-split : (xs : List code_frame.Frame) (f : code_frame.Frame) (rest : List code_frame.Frame) → xs ≡ rest ++ f ∷ []
+    → stack_view xs [] ≡ frame_view f ∷ stack_view rest []
 view-split xs f rest e = ap (λ z. stack_view z []) e ∙ view-push rest f []
 
 -- what stands around a part adds to its depth
@@ -44,7 +45,8 @@ low_most fs n = omega (arith, low_flat fs n)
 
 -- ---- from the innermost form outwards
 
-pub one_out : (rest outer : List code_frame.Frame) (f : code_frame.Frame) (n deep whole : ℕ) → rest ≡ outer ++ f ∷ [] → deep ≡ around_in (frame_view f) (stack_view outer []) n → low (stack_view rest []) n ≡ whole → low (stack_view outer []) deep ≡ whole
+pub one_out : (rest outer : List code_frame.Frame) (f : code_frame.Frame) (n deep whole : ℕ) → rest ≡ outer ++ f ∷ []
+    → deep ≡ around_in (frame_view f) (stack_view outer []) n → low (stack_view rest []) n ≡ whole → low (stack_view outer []) deep ≡ whole
 one_out rest outer f n deep whole e is same = ap (λ k. low (stack_view outer []) k) is ∙ sym (ap (λ fs. low fs n) (view-split rest f outer e)) ∙ same
 
 above : (n : ℕ) → 200 < n → true ≡ nat_lt 200 n

@@ -16,7 +16,8 @@ use Rattle.ddl_states.specs.declared.focus.HeadFocus.{HeadFocus}
 use Rattle.ddl_states.specs.declared.focus.HeadFocus.TheVariants as at_head
 use Rattle.ddl_states.specs.declared.focus.BitsFocus.{BitsFocus}
 use Rattle.ddl_states.specs.declared.focus.BitsFocus.TheVariants as at_bits
-use Rattle.ddl_states.specs.FocusView.{type_focus_view, class_focus_view, loop_focus_view, field_focus_view, list_focus_view, case_focus_view, head_focus_view, bits_focus_view}
+use Rattle.ddl_states.specs.FocusView.{type_focus_view, class_focus_view, loop_focus_view, field_focus_view, list_focus_view, case_focus_view, head_focus_view}
+use Rattle.ddl_states.specs.FocusView.{bits_focus_view}
 use Rattle.ddl_states.specs.Heights.{coming}
 use Rattle.ddl_reader.specs.Depths.{need}
 use Rattle.ddl_reader.specs.Frames.{Frame}

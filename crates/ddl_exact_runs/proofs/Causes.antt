@@ -1,5 +1,6 @@
 -- What a root whose modules are not loaded, or whose names are not bound, is answered.
-use Rattle.std.proofs.Common.{◌≡◌, ◌≢◌, ◌⊎◌, inl, inr, ℕ, List, [], ◌∷◌, map, slice_index_or, decimal, Option, Some, None, Result, Ok, Err, refl, sym, ap, ◌∙◌, subst}
+use Rattle.std.proofs.Common.{◌≡◌, ◌≢◌, ◌⊎◌, inl, inr, ℕ, List, [], ◌∷◌, map, slice_index_or, decimal, Option, Some, None, Result, Ok, Err, refl, sym, ap, ◌∙◌}
+use Rattle.std.proofs.Common.{subst}
 use Rattle.ddl_base.specs.declared.span.Span.{Span}
 use Rattle.ddl_base.specs.declared.stage.Stage.TheVariants as stage_is
 use Rattle.ddl_outside.specs.Files.{Contents, FilesState}
@@ -65,7 +66,8 @@ one_cause_answer (wrong name error) a b lines more h k =
 abbrev HasCause : LoadError → Status → Lines → Type 0
 HasCause e a lines = (c : Cause) × (cause_of e ≡ Some c) × CauseAnswer c a lines
 
-load_reason_cause : (e : LoadError) (p : Reason) (a : Status) (lines : Lines) → IsLoadReason e p → a ≡ status_is.Refused → lines ≡ reason_lines p → HasCause e a lines
+load_reason_cause : (e : LoadError) (p : Reason) (a : Status) (lines : Lines) → IsLoadReason e p → a ≡ status_is.Refused → lines ≡ reason_lines p
+    → HasCause e a lines
 load_reason_cause (refused.TooLarge name n) p a lines h s l = (too_large name n, refl, (s, l ∙ ap reason_lines h))
 load_reason_cause (refused.TooMany name span) p a lines h s l = (too_many name span, refl, (s, l ∙ ap reason_lines h))
 load_reason_cause (refused.Cycle span names) p a lines h s l = (cycle span names.items, refl, (s, l ∙ ap reason_lines h))
@@ -125,7 +127,8 @@ one_name_answer ls a b lines more h k =
     let why : IsNameReason h.units k.error h.told = subst (λ e. IsNameReason h.units e h.told) error h.why in
     (h.status ∙ sym k.status, h.line ∙ ap reason_lines (one_name_reason h.units k.units k.error h.told k.told names why k.why) ∙ sym k.line)
 
-name_refusal : (us : List SourceUnit) (f : Refusal) (a : Status) (lines : Lines) → IsNameRefusal us f → IsRefusalAnswer f a lines → NameAnswer (loaded us) a lines
+name_refusal : (us : List SourceUnit) (f : Refusal) (a : Status) (lines : Lines) → IsNameRefusal us f → IsRefusalAnswer f a lines
+    → NameAnswer (loaded us) a lines
 name_refusal us (r.Refused told) a lines h k = record {
   units = us;
   are = refl;
@@ -154,7 +157,8 @@ not_both ls error h k = cc
 abbrev pub OneRest : (List Loaded → Status → Lines → Type 0) → Type 0
 OneRest Rest = (ls : List Loaded) (a b : Status) (lines more : Lines) → Rest ls a lines → Rest ls b more → AreOne a lines b more
 
-one_given : (Rest : List Loaded → Status → Lines → Type 0) → OneRest Rest → (x : Result (List Loaded) Cause) (a b : Status) (lines more : Lines) → Gives Rest x a lines → Gives Rest x b more
+one_given : (Rest : List Loaded → Status → Lines → Type 0) → OneRest Rest → (x : Result (List Loaded) Cause) (a b : Status) (lines more : Lines)
+    → Gives Rest x a lines → Gives Rest x b more
     → AreOne a lines b more
 one_given Rest one (Ok ls) a b lines more (inl h) (inl k) = one_name_answer ls a b lines more h k
 one_given Rest one (Ok ls) a b lines more (inl h) (inr k) = absurd (not_both ls h.error h.first k.0)
@@ -172,7 +176,8 @@ one_found contents root Rest one a b lines more h k =
     let same : k.0 ≡ h.0 = one_reached contents root k.0 h.0 start k.1 h.1 in
     one_given Rest one h.0 a b lines more h.2 (subst (λ x. Gives Rest x b more) same k.2)
 
-pub found_refusal : (contents : Contents) (root : List ℕ) (Rest : List Loaded → Status → Lines → Type 0) (old new : FilesState) (a : Status) (lines : Lines) → IsKnown contents new
+pub found_refusal : (contents : Contents) (root : List ℕ) (Rest : List Loaded → Status → Lines → Type 0) (old new : FilesState) (a : Status) (lines : Lines)
+    → IsKnown contents new
     → IsInside a → IsRefusedWith root old new a lines → Found contents root Rest a lines
 found_refusal contents root Rest old new a lines k i h = of_refusal h.0 h.1 h.2 where
   of_refusal : (f : Refusal) → IsRefused old new root f → IsRefusalAnswer f a lines → Found contents root Rest a lines

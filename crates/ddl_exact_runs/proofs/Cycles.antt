@@ -1,5 +1,6 @@
 -- The cycle that is told is one.
-use Rattle.std.proofs.Common.{◌≡◌, ◌≤◌, ◌<◌, ◌⊎◌, inl, inr, ℕ, List, [], ◌∷◌, map, length, slice_get, slice_index_or, option_map, Option, Some, None, refl, sym, ap, ◌∙◌, subst, arith}
+use Rattle.std.proofs.Common.{◌≡◌, ◌≤◌, ◌<◌, ◌⊎◌, inl, inr, ℕ, List, [], ◌∷◌, map, length, slice_get, slice_index_or, option_map, Option, Some, None, refl, sym}
+use Rattle.std.proofs.Common.{ap, ◌∙◌, subst, arith}
 use Rattle.std.proofs.lemmas.Option.{slice_get-map}
 use Rattle.ddl_base.specs.declared.span.Span.{Span}
 use Rattle.ddl_tree.specs.declared.module.SourceUnit.{SourceUnit}
@@ -35,7 +36,8 @@ names_are (u ∷ us) = ap (λ names. u.name ∷ names) (names_are us)
 
 called_so : (us : List SourceUnit) (ns : List ℕ) → map (unit_name us) ns ≡ map (name_in (loaded us)) ns
 called_so us [] = refl
-called_so us (n ∷ ns) = ap (λ names. slice_index_or names n [] ∷ map (unit_name us) ns) (names_are us) ∙ ap (λ names. name_in (loaded us) n ∷ names) (called_so us ns)
+called_so us (n ∷ ns) = ap (λ names. slice_index_or names n [] ∷ map (unit_name us) ns) (names_are us)
+    ∙ ap (λ names. name_in (loaded us) n ∷ names) (called_so us ns)
 
 pub is_told : (us : List SourceUnit) (span : Span) (names : List (List ℕ)) → IsToldCycle us span names → IsTold (loaded us) span names
 is_told us span names h = record {

@@ -59,7 +59,8 @@ large_and_not o most bytes others h k more less = not_larger most bytes others (
 some_told : (o : Option Told) (x y : Told) → o ≡ Some x → o ≡ Some y → x ≡ y
 some_told o x y h k = cc
 
-one_told_of : (spec : Declared) (bytes : List ℕ) (x y : Told) → IsAnswer (alone spec.span spec.body) 0 bytes x → IsAnswer (alone spec.span spec.body) 0 bytes y → x ≡ y
+one_told_of : (spec : Declared) (bytes : List ℕ) (x y : Told) → IsAnswer (alone spec.span spec.body) 0 bytes x → IsAnswer (alone spec.span spec.body) 0 bytes y
+    → x ≡ y
 one_told_of spec bytes x y h k = some_told _ x y (h.always h.enough.0 h.enough.1) (k.always h.enough.0 h.enough.1)
 
 one_told : (spec other : Declared) (bytes others : List ℕ) (x y : Told) → spec ≡ other → bytes ≡ others → IsAnswer (alone spec.span spec.body) 0 bytes x
@@ -78,9 +79,11 @@ one_input_answer contents root input ls a b lines more (large spec bytes m i g t
 one_input_answer contents root input ls a b lines more (denoted spec bytes told m i g d t k) (unbuilt n s l) = absurd (none_or_spec (specified_of ls) spec n m)
 one_input_answer contents root input ls a b lines more (absent spec m i t k) (absent other n j u l) = (t ∙ sym u, k ∙ sym l)
 one_input_answer contents root input ls a b lines more (absent spec m i t k) (large other bytes n j g u l) = absurd (none_or_bytes (contents input) bytes i j)
-one_input_answer contents root input ls a b lines more (absent spec m i t k) (denoted other bytes told n j g d u l) = absurd (none_or_bytes (contents input) bytes i j)
+one_input_answer contents root input ls a b lines more (absent spec m i t k) (denoted other bytes told n j g d u l) =
+    absurd (none_or_bytes (contents input) bytes i j)
 one_input_answer contents root input ls a b lines more (large spec bytes m i g t k) (absent other n j u l) = absurd (none_or_bytes (contents input) bytes j i)
-one_input_answer contents root input ls a b lines more (denoted spec bytes told m i g d t k) (absent other n j u l) = absurd (none_or_bytes (contents input) bytes j i)
+one_input_answer contents root input ls a b lines more (denoted spec bytes told m i g d t k) (absent other n j u l) =
+    absurd (none_or_bytes (contents input) bytes j i)
 one_input_answer contents root input ls a b lines more (large spec bytes m i g t k) (large other others n j f u l) = (t ∙ sym u, k ∙ sym l)
 one_input_answer contents root input ls a b lines more (large spec bytes m i g t k) (denoted other others told n j f d u l) =
     absurd (large_and_not (contents input) (2 ^ 30) bytes others i j g f)

@@ -1,5 +1,6 @@
 -- What a call of the program answers is one thing.
-use Rattle.std.proofs.Common.{◌≡◌, ◌≤◌, ◌<◌, ◌^◌, ◌+◌, ◌⊎◌, inl, inr, ℕ, List, [], ◌∷◌, ◌++◌, drop, length, map, flat_map, Option, Some, None, MatchOption, Result, Ok, Err, refl, sym, ap, ◌∙◌, subst}
+use Rattle.std.proofs.Common.{◌≡◌, ◌≤◌, ◌<◌, ◌^◌, ◌+◌, ◌⊎◌, inl, inr, ℕ, List, [], ◌∷◌, ◌++◌, drop, length, map, flat_map, Option, Some, None, MatchOption}
+use Rattle.std.proofs.Common.{Result, Ok, Err, refl, sym, ap, ◌∙◌, subst}
 use Rattle.std.specs.List.{concat}
 use Rattle.std.proofs.lemmas.List.{length-map, map-append}
 use Rattle.ddl_outside.specs.Files.{Contents, FilesState}
@@ -25,7 +26,8 @@ use Rattle.ddl_exact_runs.proofs.Loadings.{held_bytes, not_held, reaches_modules
 use Rattle.ddl_exact_runs.proofs.Shows.{one_show}
 
 -- where names are bound, the rest says what is answered
-found_bound : (contents : Contents) (root : List ℕ) (Rest : List Loaded → Status → Lines → Type 0) (new : FilesState) (names : List (List ℕ)) (us : List SourceUnit) (a : Status) (lines : Lines)
+found_bound : (contents : Contents) (root : List ℕ) (Rest : List Loaded → Status → Lines
+    → Type 0) (new : FilesState) (names : List (List ℕ)) (us : List SourceUnit) (a : Status) (lines : Lines)
     → IsKnown contents new → AreBoundModules new root names us → Rest (loaded us) a lines → Found contents root Rest a lines
 found_bound contents root Rest new names us a lines k h rest =
     (Ok (loaded us), reaches_modules contents new root us names h.0 k h.1 h.2 h.3, inr (h.4, rest))
@@ -51,7 +53,8 @@ CheckAnswer ls a lines = (a ≡ status_is.Parses) × (lines ≡ closing_only (cl
 one_check_answer : OneRest CheckAnswer
 one_check_answer ls a b lines more h k = (h.0 ∙ sym k.0, h.1 ∙ sym k.1)
 
-found_check : (contents : Contents) (root : List ℕ) (old new : FilesState) (a : Status) (lines : Lines) → IsKnown contents new → IsInside a → IsCheckAnswer root old new a lines
+found_check : (contents : Contents) (root : List ℕ) (old new : FilesState) (a : Status) (lines : Lines) → IsKnown contents new → IsInside a
+    → IsCheckAnswer root old new a lines
     → Found contents root CheckAnswer a lines
 found_check contents root old new status_is.Parses lines k i h =
     found_bound contents root CheckAnswer new h.0 h.1 status_is.Parses lines k h.2 (refl, h.3 ∙ ap (λ n. closing_only (closing_is.Declarations n)) (counts h.1))
@@ -65,19 +68,22 @@ found_check contents root old new _ lines k i h = absurd h
 specifies : (us : List SourceUnit) (o : Option Declared) → specified_by us ≡ o → specified_of (loaded us) ≡ o
 specifies us o h = sym (specified_are us) ∙ h
 
-found_denoted : (contents : Contents) (root input : List ℕ) (new : FilesState) (a : Status) (lines : Lines) → IsKnown contents new → IsDenoted root input new a lines
+found_denoted : (contents : Contents) (root input : List ℕ) (new : FilesState) (a : Status) (lines : Lines) → IsKnown contents new
+    → IsDenoted root input new a lines
     → Found contents root (InputAnswer contents root input) a lines
 found_denoted contents root input new a lines k h =
     let g = h.4 in
     found_bound contents root (InputAnswer contents root input) new h.0 g.0 a lines k g.1
     (denoted h.1 h.2 h.3 (specifies g.0 (Some h.1) g.2) (held_bytes contents new input h.2 k h.5) h.6 h.7 h.8 h.9)
 
-found_unbuilt : (contents : Contents) (root input : List ℕ) (new : FilesState) (lines : Lines) → IsKnown contents new → IsUnbuilt new root → lines ≡ closing_only closing_is.Unbuilt
+found_unbuilt : (contents : Contents) (root input : List ℕ) (new : FilesState) (lines : Lines) → IsKnown contents new → IsUnbuilt new root
+    → lines ≡ closing_only closing_is.Unbuilt
     → Found contents root (InputAnswer contents root input) status_is.Refused lines
 found_unbuilt contents root input new lines k h l =
     found_bound contents root (InputAnswer contents root input) new h.0 h.1 status_is.Refused lines k h.2 (unbuilt (specifies h.1 None h.3) refl l)
 
-found_run : (contents : Contents) (root input : List ℕ) (old new : FilesState) (a : Status) (lines : Lines) → IsKnown contents new → IsInside a → IsRunAnswer root input old new a lines
+found_run : (contents : Contents) (root input : List ℕ) (old new : FilesState) (a : Status) (lines : Lines) → IsKnown contents new → IsInside a
+    → IsRunAnswer root input old new a lines
     → Found contents root (InputAnswer contents root input) a lines
 found_run contents root input old new status_is.Parses lines k i h = found_denoted contents root input new status_is.Parses lines k h
 found_run contents root input old new status_is.NoParse lines k i h = found_denoted contents root input new status_is.NoParse lines k h
@@ -103,7 +109,8 @@ found_run contents root input old new _ lines k i h = absurd h
 
 -- ---- calls
 
-one_command : (contents : Contents) (command : Command) (old new old' new' : FilesState) (a b : Status) (lines more : Lines) → IsKnown contents new → IsKnown contents new'
+one_command : (contents : Contents) (command : Command) (old new old' new' : FilesState) (a b : Status) (lines more : Lines) → IsKnown contents new
+    → IsKnown contents new'
     → IsInside a → IsInside b → IsCommandAnswer command old new a lines → IsCommandAnswer command old' new' b more → AreOne a lines b more
 one_command contents (run_of root input) old new old' new' a b lines more k l i j h g =
     one_found contents root (InputAnswer contents root input) (one_input_answer contents root input) a b lines more
@@ -118,7 +125,8 @@ abbrev OptionAnswer : Option Command → FilesState → FilesState → Status �
 OptionAnswer o old new status lines =
     MatchOption o ((status ≡ status_is.Words) × (new ≡ old) × (lines ≡ closing_only closing_is.Words)) (λ command. IsCommandAnswer command old new status lines)
 
-one_option : (contents : Contents) (o : Option Command) (old new old' new' : FilesState) (a b : Status) (lines more : Lines) → IsKnown contents new → IsKnown contents new'
+one_option : (contents : Contents) (o : Option Command) (old new old' new' : FilesState) (a b : Status) (lines more : Lines) → IsKnown contents new
+    → IsKnown contents new'
     → IsInside a → IsInside b → OptionAnswer o old new a lines → OptionAnswer o old' new' b more → AreOne a lines b more
 one_option contents None old new old' new' a b lines more k l i j h g = (h.0 ∙ sym g.0, h.2 ∙ sym g.2)
 one_option contents (Some command) old new old' new' a b lines more k l i j h g = one_command contents command old new old' new' a b lines more k l i j h g

@@ -1,5 +1,6 @@
 -- What is answered where a module is to be shown.
-use Rattle.std.proofs.Common.{◌≡◌, ◌≢◌, ◌≤◌, ◌<◌, ◌^◌, ◌⊎◌, inl, inr, ℕ, List, [], ◌∷◌, length, Option, Some, None, Result, Ok, Err, refl, sym, ap, ◌∙◌, subst, arith}
+use Rattle.std.proofs.Common.{◌≡◌, ◌≢◌, ◌≤◌, ◌<◌, ◌^◌, ◌⊎◌, inl, inr, ℕ, List, [], ◌∷◌, length, Option, Some, None, Result, Ok, Err, refl, sym, ap, ◌∙◌, subst}
+use Rattle.std.proofs.Common.{arith}
 use Rattle.ddl_outside.specs.Files.{Contents, FilesState}
 use Rattle.ddl_front.specs.Reasons.{IsSourceReason, Reason, long_reason}
 use Rattle.ddl_modules.specs.Files.{module_name}
@@ -27,7 +28,8 @@ abbrev TextAnswer : List ℕ → Result Module SourceError → Status → Lines 
 TextAnswer name (Ok tree) a lines = (a ≡ status_is.Parses) × (lines ≡ show_text tree ∷ [])
 TextAnswer name (Err error) a lines = (a ≡ status_is.Refused) × (p : Reason) × IsSourceReason name error p × (lines ≡ reason_lines p)
 
-one_text_answer : (name : List ℕ) (x : Result Module SourceError) (a b : Status) (lines more : Lines) → TextAnswer name x a lines → TextAnswer name x b more → AreOne a lines b more
+one_text_answer : (name : List ℕ) (x : Result Module SourceError) (a b : Status) (lines more : Lines) → TextAnswer name x a lines → TextAnswer name x b more
+    → AreOne a lines b more
 one_text_answer name (Ok tree) a b lines more h k = (h.0 ∙ sym k.0, h.1 ∙ sym k.1)
 one_text_answer name (Err error) a b lines more h k =
     (h.0 ∙ sym k.0, h.3 ∙ ap reason_lines (one_source_reason name error h.1 k.1 h.2 k.2) ∙ sym k.3)
@@ -46,10 +48,12 @@ no_bytes text bytes h k = cc
 same_bytes : (text : Option (List ℕ)) (bytes others : List ℕ) → text ≡ Some bytes → text ≡ Some others → bytes ≡ others
 same_bytes text bytes others h k = cc
 
-not_larger : (text : Option (List ℕ)) (most : ℕ) (bytes others : List ℕ) → text ≡ Some bytes → text ≡ Some others → most < length bytes → length others ≤ most → ⊥
+not_larger : (text : Option (List ℕ)) (most : ℕ) (bytes others : List ℕ) → text ≡ Some bytes → text ≡ Some others → most < length bytes → length others ≤ most
+    → ⊥
 not_larger text most bytes others h k more less = let long : length bytes ≡ length others = ap length (same_bytes text bytes others h k) in omega arith
 
-one_file_answer : (text : Option (List ℕ)) (file name : List ℕ) (a b : Status) (lines more : Lines) → FileAnswer text file name a lines → FileAnswer text file name b more
+one_file_answer : (text : Option (List ℕ)) (file name : List ℕ) (a b : Status) (lines more : Lines) → FileAnswer text file name a lines
+    → FileAnswer text file name b more
     → AreOne a lines b more
 one_file_answer text file name a b lines more (absent n s l) (absent m t k) = (s ∙ sym t, l ∙ sym k)
 one_file_answer text file name a b lines more (absent n s l) (large bytes m g t k) = absurd (no_bytes text bytes n m)
@@ -75,7 +79,8 @@ no_memory name source_is.NoMemory p h = λ same. h
 abbrev Shows : Contents → List ℕ → Status → Lines → Type 0
 Shows contents root a lines = FileAnswer (contents (file_of root)) (file_of root) (module_name root) a lines
 
-shows_not : (contents : Contents) (root : List ℕ) (old new : FilesState) (p : Reason) (lines : Lines) → IsKnown contents new → IsUnshown old new (file_of root) (module_name root) p
+shows_not : (contents : Contents) (root : List ℕ) (old new : FilesState) (p : Reason) (lines : Lines) → IsKnown contents new
+    → IsUnshown old new (file_of root) (module_name root) p
     → lines ≡ reason_lines p → Shows contents root status_is.Refused lines
 shows_not contents root old new p lines k (inl h) l =
     let b = told_bytes contents new (file_of root) h.0 k h.1 in
@@ -83,7 +88,8 @@ shows_not contents root old new p lines k (inl h) l =
 shows_not contents root old new p lines k (inr h) l =
     parsed h.0 (Err h.1) (held_bytes contents new (file_of root) h.0 k h.2) h.3 (no_memory (module_name root) h.1 p h.5, h.4) (refl, p, h.5, l)
 
-shows : (contents : Contents) (root : List ℕ) (old new : FilesState) (a : Status) (lines : Lines) → IsKnown contents new → IsInside a → IsShowAnswer root old new a lines
+shows : (contents : Contents) (root : List ℕ) (old new : FilesState) (a : Status) (lines : Lines) → IsKnown contents new → IsInside a
+    → IsShowAnswer root old new a lines
     → Shows contents root a lines
 shows contents root old new status_is.Parses lines k i h =
     parsed h.1.0 (Ok h.0) (held_bytes contents new (file_of root) h.1.0 k h.1.1) h.1.2 h.1.3 (refl, h.2)
@@ -92,7 +98,8 @@ shows contents root old new status_is.Missing lines k i h = absent (not_held con
 shows contents root old new status_is.ReadFault lines k i h = absurd i
 shows contents root old new _ lines k i h = absurd h
 
-pub one_show : (contents : Contents) (root : List ℕ) (old new old' new' : FilesState) (a b : Status) (lines more : Lines) → IsKnown contents new → IsKnown contents new'
+pub one_show : (contents : Contents) (root : List ℕ) (old new old' new' : FilesState) (a b : Status) (lines more : Lines) → IsKnown contents new
+    → IsKnown contents new'
     → IsInside a → IsInside b → IsShowAnswer root old new a lines → IsShowAnswer root old' new' b more → AreOne a lines b more
 one_show contents root old new old' new' a b lines more k l i j h g =
     one_file_answer (contents (file_of root)) (file_of root) (module_name root) a b lines more

@@ -1,5 +1,6 @@
 -- Loading from module to module, and that it ends in one way.
-use Rattle.std.proofs.Common.{◌≡◌, ◌≤◌, ◌<◌, ◌+◌, ◌⊎◌, inl, inr, ℕ, List, [], ◌∷◌, ◌++◌, length, slice_get, Option, Some, None, Result, Ok, Err, refl, sym, ap, ◌∙◌, subst, arith}
+use Rattle.std.proofs.Common.{◌≡◌, ◌≤◌, ◌<◌, ◌+◌, ◌⊎◌, inl, inr, ℕ, List, [], ◌∷◌, ◌++◌, length, slice_get, Option, Some, None, Result, Ok, Err, refl, sym, ap}
+use Rattle.std.proofs.Common.{◌∙◌, subst, arith}
 use Rattle.std.proofs.lemmas.Option.{slice_get_within}
 use Rattle.ddl_base.specs.declared.span.Span.{Span}
 use Rattle.ddl_outside.specs.Files.{Contents}
@@ -133,7 +134,8 @@ full_and_stops : (contents : Contents) (root : List ℕ) (s : Stage) (c : Cause)
 full_and_stops contents root s c full h = not_full root s h.name full h.next
 
 -- where all modules were read, the end is told by their imports
-one_full_end : (contents : Contents) (root : List ℕ) (s : Stage) (x y : Result (List Loaded) Cause) → IsFull root s → Ends contents root s x → Ends contents root s y → x ≡ y
+one_full_end : (contents : Contents) (root : List ℕ) (s : Stage) (x y : Result (List Loaded) Cause) → IsFull root s → Ends contents root s x
+    → Ends contents root s y → x ≡ y
 one_full_end contents root s (Ok ls) (Ok ms) full h k = ap Ok (h.2 ∙ sym k.2)
 one_full_end contents root s (Ok ls) (Err (cycle span names)) full h k = absurd (cycle_and_none s span names h.1 k.1)
 one_full_end contents root s (Err (cycle span names)) (Ok ms) full h k = absurd (cycle_and_none s span names k.1 h.1)
@@ -159,7 +161,8 @@ one_ending : (contents : Contents) (root : List ℕ) (s : Stage) (x y : Result (
 one_ending contents root s x y h k = by_kind contents root s x y h k (kind_of contents root s x h) (kind_of contents root s y k)
 
 -- what is reached is one
-pub one_reached : (contents : Contents) (root : List ℕ) (x y : Result (List Loaded) Cause) (s : Stage) → Reaches contents root x s → Reaches contents root y s → x ≡ y
+pub one_reached : (contents : Contents) (root : List ℕ) (x y : Result (List Loaded) Cause) (s : Stage) → Reaches contents root x s → Reaches contents root y s
+    → x ≡ y
 one_reached contents root x y s (ends h) (ends k) = one_ending contents root s x y h k
 one_reached contents root x y s (ends h) (goes l n g k) = absurd (goes_and_ends contents root s l n x g h)
 one_reached contents root x y s (goes l n g h) (ends k) = absurd (goes_and_ends contents root s l n y g k)

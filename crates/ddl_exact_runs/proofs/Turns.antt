@@ -27,7 +27,8 @@ abbrev pub Fails : Option (List ℕ) → ℕ → List (List ℕ) → List ℕ �
 Fails text number names name file before (missing f) = (f ≡ file) × (text ≡ None)
 Fails text number names name file before (too_large m n) = (m ≡ name) × (bytes : List ℕ) × (text ≡ Some bytes) × (n ≡ length bytes) × IsTooLarge before n
 Fails text number names name file before (too_many m span) =
-    (m ≡ name) × (bytes : List ℕ) × (tree : Module) × (text ≡ Some bytes) × IsWithin before (length bytes) × HasTree number bytes tree × (beyond names tree.imports ≡ Some span)
+    (m ≡ name) × (bytes : List ℕ) × (tree : Module) × (text ≡ Some bytes) × IsWithin before (length bytes) × HasTree number bytes tree
+    × (beyond names tree.imports ≡ Some span)
 Fails text number names name file before (cycle span ms) = ⊥
 Fails text number names name file before (wrong m error) =
     (m ≡ name) × (bytes : List ℕ) × (text ≡ Some bytes) × IsWithin before (length bytes) × IsWrongText bytes error
@@ -60,10 +61,12 @@ err_is : (error other : SourceError) (r s : Answer) → r ≡ Err error → s �
 err_is error other r s h k same = cc
 
 tree_not_wrong : (number : ℕ) (a b : List ℕ) (x : Module) (error : SourceError) → a ≡ b → HasTree number a x → IsWrongText b error → ⊥
-tree_not_wrong number a b x error same h k = ok_not_err x error (Ok x) (Err error) refl refl (one_source number b (Ok x) (Err error) (subst (λ text. HasTree number text x) same h) k)
+tree_not_wrong number a b x error same h k = ok_not_err x error (Ok x) (Err error) refl refl
+    (one_source number b (Ok x) (Err error) (subst (λ text. HasTree number text x) same h) k)
 
 one_wrong : (a b : List ℕ) (error other : SourceError) → a ≡ b → IsWrongText a error → IsWrongText b other → error ≡ other
-one_wrong a b error other same h k = err_is error other (Err error) (Err other) refl refl (one_source 0 b (Err error) (Err other) (subst (λ text. IsWrongText text error) same h) k)
+one_wrong a b error other same h k = err_is error other (Err error) (Err other) refl refl
+    (one_source 0 b (Err error) (Err other) (subst (λ text. IsWrongText text error) same h) k)
 
 some_not_none : (o : Option Span) (span : Span) → o ≡ Some span → o ≡ None → ⊥
 some_not_none o span h k = cc
@@ -128,7 +131,8 @@ one_failure text number names name file before (wrong l error) (too_large m n) h
     absurd (not_large before n (length h.1) (k.3 ∙ ap length (same_bytes text k.1 h.1 k.2 h.2)) k.4 h.3)
 one_failure text number names name file before (too_many m s) (too_many l t) h k =
     let tree : h.2 ≡ k.2 = same_tree number h.1 k.1 h.2 k.2 (same_bytes text h.1 k.1 h.3 k.3) h.5 k.5 in
-    ap (λ x. too_many x s) (h.0 ∙ sym k.0) ∙ ap (too_many l) (one_span (beyond names h.2.imports) (beyond names k.2.imports) s t (ap (λ x. beyond names x.imports) tree) h.6 k.6)
+    ap (λ x. too_many x s) (h.0 ∙ sym k.0) ∙ ap (too_many l)
+    (one_span (beyond names h.2.imports) (beyond names k.2.imports) s t (ap (λ x. beyond names x.imports) tree) h.6 k.6)
 one_failure text number names name file before (too_many m s) (wrong l error) h k =
     absurd (tree_not_wrong number h.1 k.1 h.2 error (same_bytes text h.1 k.1 h.3 k.2) h.5 k.4)
 one_failure text number names name file before (wrong l error) (too_many m s) h k =

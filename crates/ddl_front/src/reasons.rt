@@ -2,7 +2,8 @@
 
 ghost use Rattle.std.specs.Prelude.{◌≡◌, ◌∷◌, [], IfOk, decimal};
 ghost use Rattle.ddl_front.specs.Front.{IsLoadRefusal, IsNameRefusal};
-ghost use Rattle.ddl_front.specs.Reasons.{IsNameReason, IsSourceReason, first_name, lex_number, lex_place, load_reason, long_reason, name_of, name_reason, reason, reason_view};
+ghost use Rattle.ddl_front.specs.Reasons.{IsNameReason, IsSourceReason, first_name, lex_number, lex_place, load_reason};
+ghost use Rattle.ddl_front.specs.Reasons.{long_reason, name_of, name_reason, reason, reason_view};
 ghost use Rattle.ddl_names.specs.Resolves.{IsUnbound};
 ghost use Rattle.ddl_source.specs.declared.error.SourceError.TheVariants as wrong;
 
@@ -48,7 +49,8 @@ fn told(alloc: Global, name: &[u8], cause: Cause, more: Vec<Bytes>) -> Result<To
 
 /// What is told of a cause with one number.
 fn told_with(alloc: Global, name: &[u8], cause: Cause, number: u64) -> Result<Told, NoMemory>
-    ensures { IfOk result (λ t. reason_view t ≡ reason cause.stage cause.number name.now cause.from cause.to (decimal number ∷ [])) }
+    ensures { IfOk result (λ t. reason_view t ≡ reason cause.stage cause.number name.now cause.from cause.to
+        (decimal number ∷ [])) }
 {
     let mut more = Vec::new(alloc);
     more.push(decimal(alloc, number)?)?;
@@ -63,7 +65,8 @@ fn told_pair(
     first: Bytes,
     second: Bytes,
 ) -> Result<Told, NoMemory>
-    ensures { IfOk result (λ t. reason_view t ≡ reason cause.stage cause.number name.now cause.from cause.to (first ∷ second ∷ [])) }
+    ensures { IfOk result (λ t. reason_view t ≡ reason cause.stage cause.number name.now cause.from cause.to
+        (first ∷ second ∷ [])) }
 {
     let mut more = Vec::new(alloc);
     more.push(first)?;

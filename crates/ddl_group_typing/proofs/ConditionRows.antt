@@ -16,7 +16,13 @@ use Rattle.ddl_conditions.specs.Standing.{Shows, Stands}
 -- covered; bitdata 1 is 4 bits wide, with the tag `t`, and 3 fits none of its constructors
 abbrev shapes : Shapes
 shapes = record {
-  places = record { vars = 0; tagged = false; names = codes "x" ∷ []; types = con int none ∷ [] } ∷ record { vars = 0; tagged = true; names = codes "t" ∷ []; types = con unit none ∷ [] } ∷ [];
+  places = record { vars = 0; tagged = false; names = codes "x" ∷ []; types = con int none ∷ [] } ∷ record {
+    vars = 0;
+    tagged = true;
+    names =
+        codes "t" ∷ [];
+    types = con unit none ∷ [];
+  } ∷ [];
   bitdata = record { width = 8; gap = None; shape = record { vars = 0; tagged = false; names = codes "y" ∷ []; types = con (uint 8) none ∷ [] } }
       ∷ record { width = 4; gap = Some 3; shape = record { vars = 0; tagged = true; names = codes "t" ∷ []; types = con unit none ∷ [] } } ∷ [];
 }
@@ -165,7 +171,13 @@ asked c = record { what = condition c; span = record { «module» = 0; from = 0;
 
 -- a number of the type itself is kept, where each declaration has parameters
 num_kept : IsKept (group true) var (asked (num (var 0)))
-num_kept = record { neither = refl; form = refl; with_parameters = refl; stand = λ v e. record { where_ = var 0; shown = Shows.root (0, omega arith, refl); there = e } }
+num_kept = record {
+  neither = refl;
+  form = refl;
+  with_parameters = refl;
+  stand =
+      λ v e. record { where_ = var 0; shown = Shows.root (0, omega arith, refl); there = e };
+}
 
 num_left : IsLeft (group false) var (asked (num (var 0)))
 num_left = record { neither = refl; unkept = λ h. let e : false ≡ true = h.with_parameters in cc }

@@ -1,5 +1,6 @@
 -- Two solutions of which each is the other followed by a map number a group's variables alike, and give its types alike.
-use Rattle.std.proofs.Common.{◌≡◌, ℕ, zero, suc, ◌==◌, ◌||◌, List, [], ◌∷◌, ◌++◌, map, length, Bool, true, false, if◌then◌else◌, refl, sym, ap, ◌∙◌, subst, eqb-true, eq-eqb}
+use Rattle.std.proofs.Common.{◌≡◌, ℕ, zero, suc, ◌==◌, ◌||◌, List, [], ◌∷◌, ◌++◌, map, length, Bool, true, false, if◌then◌else◌, refl, sym, ap, ◌∙◌, subst}
+use Rattle.std.proofs.Common.{eqb-true, eq-eqb}
 use Rattle.ddl_types.specs.Types.{Ty, Ty.var, Ty.con, Tys, Tys.none, Tys.more, Sub, on, on_all, Head, Head.place}
 use Rattle.ddl_judging.specs.Shapes.{Shapes, place_at}
 use Rattle.ddl_schemes.specs.Order.{AreVariables, Seen, Walks, among, is_new, members, parts, with_head, with_variable}
@@ -57,12 +58,14 @@ module _ (h k : Sub) where
 
   same_among : {vs ws : List ℕ} {v w : ℕ} → AreOthers vs ws → IsOther v w → among vs v ≡ among ws w
   same_among no_more o = refl
-  same_among {vs = x ∷ vs} {ws = y ∷ ws} {v = m} {w = n} (one_more p os) o = ap (λ b. b || among vs m) (same_test p o) ∙ ap (λ b. (y == n) || b) (same_among os o)
+  same_among {vs = x ∷ vs} {ws = y ∷ ws} {v = m} {w = n} (one_more p os) o = ap (λ b. b || among vs m) (same_test p o)
+      ∙ ap (λ b. (y == n) || b) (same_among os o)
 
   with_others : (s z : Seen) {v w : ℕ} → AreOthers s.variables z.variables → IsOther v w → AreOthers (with_variable v s).variables (with_variable w z).variables
   with_others s z {v} {w} os o = by_test (among s.variables v) (among z.variables w) (same_among os o)
     where
-      by_test : (b c : Bool) → b ≡ c → AreOthers (if b then s else record s { variables = s.variables ++ v ∷ [] }).variables (if c then z else record z { variables = z.variables ++ w ∷ [] }).variables
+      by_test : (b c : Bool) → b ≡ c → AreOthers (if b then s else record s { variables = s.variables ++ v ∷ [] }).variables
+          (if c then z else record z { variables = z.variables ++ w ∷ [] }).variables
       by_test true true e = os
       by_test false false e = others_end os o
       by_test true false e = let q : true ≡ false = e in absurd (cc)
@@ -71,7 +74,8 @@ module _ (h k : Sub) where
   same_places : (s z : Seen) (v w : ℕ) → s.places ≡ z.places → (with_variable v s).places ≡ (with_variable w z).places
   same_places s z v w e = by_test (among s.variables v) (among z.variables w)
     where
-      by_test : (b c : Bool) → (if b then s else record s { variables = s.variables ++ v ∷ [] }).places ≡ (if c then z else record z { variables = z.variables ++ w ∷ [] }).places
+      by_test : (b c : Bool) → (if b then s else record s { variables = s.variables ++ v ∷ [] }).places
+          ≡ (if c then z else record z { variables = z.variables ++ w ∷ [] }).places
       by_test true true = e
       by_test true false = e
       by_test false true = e
@@ -153,7 +157,8 @@ module _ (h k : Sub) where
     places_after : (ss : Shapes) (c : Head) (s z : Seen) → s.places ≡ z.places → (with_head ss c s).places ≡ (with_head ss c z).places
     places_after ss (place p) s z e = by_test (is_new ss s (place p)) (is_new ss z (place p)) (same_new ss (place p) s z e)
       where
-        by_test : (b c : Bool) → b ≡ c → (if b then record s { places = p ∷ s.places } else s).places ≡ (if c then record z { places = p ∷ z.places } else z).places
+        by_test : (b c : Bool) → b ≡ c → (if b then record s { places = p ∷ s.places } else s).places
+            ≡ (if c then record z { places = p ∷ z.places } else z).places
         by_test true true q = ap (λ ps. p ∷ ps) e
         by_test false false q = e
         by_test true false q = let r : true ≡ false = q in absurd (cc)

@@ -25,7 +25,8 @@ met_follows z f g h a e m = let P : Rattle.ddl_judging.specs.Demands.Demand → 
     subst P (sym (demand_follows f h g e a.what)) (judged_stays z.shapes (on_demand f a.what) h m)
 
 -- the same demands are kept
-same_kept : (z : Group) (f g h k : Sub) → Follows g f h → Follows f g k → {i : ℕ} {as_ : List Asked} {ks ls : List ℕ} → AreKept z f i as_ ks → AreKept z g i as_ ls → ks ≡ ls
+same_kept : (z : Group) (f g h k : Sub) → Follows g f h → Follows f g k → {i : ℕ} {as_ : List Asked} {ks ls : List ℕ} → AreKept z f i as_ ks
+    → AreKept z g i as_ ls → ks ≡ ls
 same_kept z f g h k e d none_left none_left = refl
 same_kept z f g h k e d (met m a) (met n b) = same_kept z f g h k e d a b
 same_kept z f g h k e d {i} (kept m a) (kept n b) = ap (λ xs. i ∷ xs) (same_kept z f g h k e d a b)
@@ -44,7 +45,8 @@ one_group o z a b x y =
     let P2 : List Equation → Type 0 = λ qs. MostGeneral qs f2 in
     let m1 : MostGeneral (equations es s1) f1 = subst P1 x.solved.ended.all x.solved.ended.solution in
     let m2 : MostGeneral (equations es s2) f2 = subst P2 y.solved.ended.all y.solved.ended.solution in
-    let same : s1 ≡ s2 = one_end g es (elaborated_in o z).state.next s1 s2 x.solved.ended.grows (done_with f1 m1 x.solved.ended.done) y.solved.ended.grows (done_with f2 m2 y.solved.ended.done) in
+    let same : s1 ≡ s2 = one_end g es (elaborated_in o z).state.next s1 s2 x.solved.ended.grows (done_with f1 m1 x.solved.ended.done) y.solved.ended.grows
+    (done_with f2 m2 y.solved.ended.done) in
     let Q : State → Type 0 = λ s. MostGeneral (equations es s) f2 in
     let n2 : MostGeneral (equations es s1) f2 = subst Q (sym same) m2 in
     let h = m1.general f2 n2.solves in

@@ -1,10 +1,14 @@
 -- A demand that holds still holds where variables of its types are replaced.
 use Rattle.std.proofs.Common.{◌≡◌, ℕ, ◌+◌, refl, sym, ap, ◌∙◌, Bool, true, false, nat_lt, nat_le, Option, Some, None, List, subst, arith}
-use Rattle.ddl_types.specs.Types.{Ty, Ty.var, Ty.con, Tys, Sub, on, on_all, Head, Head.int, Head.uint, Head.sint, Head.bool, Head.unit, Head.stream, Head.maybe_of, Head.array_of, Head.map_of, Head.bits, Head.place}
+use Rattle.ddl_types.specs.Types.{Ty, Ty.var, Ty.con, Tys, Sub, on, on_all, Head, Head.int, Head.uint, Head.sint, Head.bool, Head.unit, Head.stream}
+use Rattle.ddl_types.specs.Types.{Head.maybe_of, Head.array_of, Head.map_of, Head.bits, Head.place}
 use Rattle.ddl_types.specs.Conditions.{num, word, lit, key, lossless, cut, fit, cat, field, tag, loops}
 use Rattle.ddl_judging.specs.declared.refusal.Wanted.TheVariants as w
 use Rattle.ddl_judging.specs.Demands.{Demand, condition, make, gather, on_demand}
-use Rattle.ddl_judging.specs.Judging.{Casting, keeps, loses, has_gap, if_equal, if_keeps, casting, can_cut, can_fit, IsCast, IsEqual, same, later, never, IsLossless, IsUnknown, itself, unknown, Judged, Verdict, holds, undecided, false_for, Wrong, not_number, not_lossless, no_field, literal_range, width_range, gap, if_true, if_member, number, word_type, literal, comparable, cutting, fitting, joined, has_field, has_tag, makes, looped}
+use Rattle.ddl_judging.specs.Judging.{Casting, keeps, loses, has_gap, if_equal, if_keeps, casting, can_cut, can_fit, IsCast, IsEqual, same, later, never}
+use Rattle.ddl_judging.specs.Judging.{IsLossless, IsUnknown, itself, unknown, Judged, Verdict, holds, undecided, false_for, Wrong, not_number, not_lossless}
+use Rattle.ddl_judging.specs.Judging.{no_field, literal_range, width_range, gap, if_true, if_member, number, word_type, literal, comparable, cutting, fitting}
+use Rattle.ddl_judging.specs.Judging.{joined, has_field, has_tag, makes, looped}
 use Rattle.ddl_judging.specs.Shapes.{Shapes, found, place_at, bits_at}
 
 -- ---- verdicts that are not `holds`
@@ -86,7 +90,8 @@ cut_stays (con h us) (var v) f e = no_decision e
 cut_stays (var v) t f e = no_decision e
 
 fit_stays : (ss : Shapes) (s t : Ty) (f : Sub) → holds ≡ fitting ss s t → holds ≡ fitting ss (on s f) (on t f)
-fit_stays ss (con h us) (con k vs) f e = true_stays (can_fit ss h k) (not_lossless (con h us) (con k vs)) (not_lossless (con h (on_all us f)) (con k (on_all vs f))) e
+fit_stays ss (con h us) (con k vs) f e = true_stays (can_fit ss h k) (not_lossless (con h us) (con k vs))
+    (not_lossless (con h (on_all us f)) (con k (on_all vs f))) e
 fit_stays ss (con h us) (var v) f e = no_decision e
 fit_stays ss (var v) t f e = no_decision e
 

@@ -23,6 +23,7 @@ OneTyping = (opened : List ℕ → Table → Opening) (groups : List (List ℕ))
 
 -- what is well typed is so with its variables replaced, where what was assumed is granted then
 abbrev pub InstancesAreWellTyped : Type 0
-InstancesAreWellTyped = (ss : Shapes) (assumed granted : List Condition) (known : ℕ → Known) (bs : List Body) (z : State) (trees : List t.Expr) (f : Sub) → AreClosedShapes ss → ((d : ℕ) → Closes (known d))
+InstancesAreWellTyped = (ss : Shapes) (assumed granted : List Condition) (known : ℕ → Known) (bs : List Body) (z : State) (trees : List t.Expr) (f : Sub)
+    → AreClosedShapes ss → ((d : ℕ) → Closes (known d))
     → ((c : Condition) → Contains assumed c → IsGranted ss granted (condition (on_condition f c)))
     → AreWellTyped ss assumed known bs z trees → AreWellTyped ss granted (all_known_on known f) (bodies_on bs f) (state_on z f) (trees_on trees f)

@@ -1,7 +1,11 @@
 -- Calls of the declarations of a group in its own trees: they hand on the group's variables.
 use Rattle.std.specs.Prelude.{ℕ, zero, suc, if◌then◌else◌, Bool}
 use Rattle.ddl_types.specs.Types.{Ty.var}
-use Rattle.ddl_typed.specs.Tree.{Expr, Form, Exprs, Named, Content, Cases, Bounds, Alts, Args, Items, Item, expr, just_, list, record_, union_, select, infix_, prefix_, cast, builtin, value_call, paren, if_, case_, for_, map_, pure, match, primitive, is_, fits, block, first, choose, many, optional, call, no_exprs, more, no_named, named, no_content, content, no_cases, when, unbounded, exactly, from_, up_to, between, no_alts, alt, tag, no_args, by_value, by_grammar, by_class, by_type, by_hand, no_items, item, plain, let_, field, result_}
+use Rattle.ddl_typed.specs.Tree.{Expr, Form, Exprs, Named, Content, Cases, Bounds, Alts, Args, Items, Item, expr, just_, list, record_, union_, select, infix_}
+use Rattle.ddl_typed.specs.Tree.{prefix_, cast, builtin, value_call, paren, if_, case_, for_, map_, pure, match, primitive, is_, fits, block, first, choose}
+use Rattle.ddl_typed.specs.Tree.{many, optional, call, no_exprs, more, no_named, named, no_content, content, no_cases, when, unbounded, exactly, from_, up_to}
+use Rattle.ddl_typed.specs.Tree.{between, no_alts, alt, tag, no_args, by_value, by_grammar, by_class, by_type, by_hand, no_items, item, plain, let_, field}
+use Rattle.ddl_typed.specs.Tree.{result_}
 
 -- so many variables as they are, from the i-th on
 abbrev pub own_types : ℕ → ℕ → Args → Args

@@ -69,14 +69,17 @@ module _ {H : Type 0} (read : Option H) (is_value : ℕ → Bool) (o : Opening) 
         → FirstOf (IsFalse (asked_in o z) f) (asked_in o z).asked a → IsWrong (asked_in o z) f why a → IsRefused (wrong a.span why)
     by_left : {s : State} {es : List Equation} {f : Sub} {a : Asked} → read ≡ None
         → IsEnd (asked_in o z) (equations_of (elaborated_in o z).asks) (elaborated_in o z).state.next s es f
-        → All (λ b. IsFalse (asked_in o z) f b → ⊥) (asked_in o z).asked → FirstOf (IsLeft (asked_in o z) f) (asked_in o z).asked a → IsRefused (unresolved a.span)
+        → All (λ b. IsFalse (asked_in o z) f b → ⊥) (asked_in o z).asked → FirstOf (IsLeft (asked_in o z) f) (asked_in o z).asked a
+        → IsRefused (unresolved a.span)
     by_gap : {f : Sub} {kept variables : List ℕ} {g : Gap} → read ≡ None → IsSolved o z f kept variables
         → (let final = seen (length z.places) variables f in let y = with_group o z (length variables) final kept in
-        first_in is_value (shapes_of y) (Rattle.ddl_group_typing.specs.Finals.final_bodies (length variables) final o.members o.members (elaborated_in o z).trees) ≡ Some g)
+        first_in is_value (shapes_of y) (Rattle.ddl_group_typing.specs.Finals.final_bodies (length variables) final o.members o.members
+        (elaborated_in o z).trees) ≡ Some g)
         → IsRefused (no_alternative g)
 
 -- the first group that has a reason has this one, and the groups before it are typed
-pub record IsFirstRefused (opened : List ℕ → Table → Opening) {H : Type 0} (read : List ℕ → Table → Option H) (is_value : ℕ → Bool) (groups : List (List ℕ)) (start : Table) (e : Refusal H) : Type 0 where
+pub record IsFirstRefused (opened : List ℕ → Table → Opening) {H : Type 0} (read : List ℕ → Table → Option H) (is_value : ℕ
+    → Bool) (groups : List (List ℕ)) (start : Table) (e : Refusal H) : Type 0 where
   pub before : List (List ℕ)
   pub here : List ℕ
   pub after : List (List ℕ)

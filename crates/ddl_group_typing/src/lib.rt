@@ -1,10 +1,6 @@
 //! The typing of groups of declarations: definitions, and what holds of them.
 #![tactic(auto)]
 
-ghost use Rattle.ddl_group_typing.specs.Laws.{OneGroup, OneTyping};
+mod laws;
 
-/// A group has one typing, and a specification has one. There is nothing to run.
-pub fn typing_law()
-    ensures group { OneGroup }
-    ensures whole { OneTyping }
-{}
+pub use laws::typing_law;

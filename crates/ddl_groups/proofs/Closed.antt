@@ -26,7 +26,8 @@ one_place m p q e f = cc
 pub not_both : (m : Mark) (q : ℕ) → m ≡ Open q → m ≡ Closed → ⊥
 not_both m q e f = cc
 
-module _ (needs : List (List ℕ)) (path heads : List ℕ) (steps : List Step) (marks : List Mark) (labels : List ℕ) (count : ℕ) (P : IsPath needs path heads steps marks labels count) where
+module _ (needs : List (List ℕ)) (path heads : List ℕ) (steps : List Step) (marks : List Mark) (labels : List ℕ) (count : ℕ)
+    (P : IsPath needs path heads steps marks labels count) where
   pub declared : (v : ℕ) → mark_at marks v ≢ Unseen → v < length needs
   declared v ne = elim (cases_lt v (length marks)) [
     | inl l ↦ let e : length marks ≡ length needs = P.marks_long in omega arith
@@ -47,10 +48,12 @@ module _ (needs : List (List ℕ)) (path heads : List ℕ) (steps : List Step) (
 
 module _ (needs : List (List ℕ)) (path heads : List ℕ) (steps : List Step) (marks : List Mark) (labels : List ℕ) (count : ℕ)
     (P : IsPath needs path heads steps marks labels count)
-    (some_head : 0 < length heads) (h : ℕ) (h_is : slice_index heads (length heads - 1) ≡ h) (F : AreFollowed needs path heads steps marks) (before : (s : Step) → Contains steps s → s.from < h)
+    (some_head : 0 < length heads) (h : ℕ) (h_is : slice_index heads (length heads - 1) ≡ h) (F : AreFollowed needs path heads steps marks) (before : (s : Step)
+    → Contains steps s → s.from < h)
     (marks' : List Mark) (labels' : List ℕ) (long : (length marks' ≡ length marks) × (length labels' ≡ length labels))
     (closed : (p : ℕ) → h ≤ p → p < length path → (mark_at marks' (slice_index path p) ≡ Closed) × (slice_index labels' (slice_index path p) ≡ count))
-    (others : (v : ℕ) → ((p : ℕ) → h ≤ p → p < length path → slice_index path p ≢ v) → (mark_at marks' v ≡ mark_at marks v) × (slice_index labels' v ≡ slice_index labels v))
+    (others : (v : ℕ) → ((p : ℕ) → h ≤ p → p < length path → slice_index path p ≢ v)
+    → (mark_at marks' v ≡ mark_at marks v) × (slice_index labels' v ≡ slice_index labels v))
     (fewer : unseen marks' ≤ unseen marks) where
   greatest : (g : ℕ) → Contains heads g → g ≤ h
   greatest g c = subst (λ x. g ≤ x) h_is (last_greatest heads P.rising g c)
@@ -71,7 +74,8 @@ module _ (needs : List (List ℕ)) (path heads : List ℕ) (steps : List Step) (
   rest_below g c =
       let e : length (take (length heads - 1) heads) ≡ length heads - 1 = front_long heads in
       let m : c.0 < length (take (length heads - 1) heads) = c.1 in
-      let at : slice_index heads c.0 ≡ g = sym (get_or-take (length heads - 1) heads c.0 0 (omega arith)) ∙ get_or_default (take (length heads - 1) heads) c.0 0 g m ∙ c.2 in
+      let at : slice_index heads c.0 ≡ g = sym (get_or-take (length heads - 1) heads c.0 0 (omega arith))
+      ∙ get_or_default (take (length heads - 1) heads) c.0 0 g m ∙ c.2 in
       let f : slice_index heads c.0 < slice_index heads (length heads - 1) = P.rising c.0 (length heads - 1) (omega arith) (omega arith) in
       omega (arith, h_is)
 
@@ -140,7 +144,8 @@ module _ (needs : List (List ℕ)) (path heads : List ℕ) (steps : List Step) (
       let m : h < length path = h_in in
       P.leads p q (omega arith) (omega arith) (λ g c n. elim (rest_or_last g c) [ inl d ↦ behind g d n | inr e ↦ absurd (omega arith) ])
 
-  followed_end : (a b : ℕ) → slice_index labels' a ≡ count → (q : ℕ) → h ≤ q → IsFollowed heads steps marks q b → (mark_at marks' b ≡ Closed) × (slice_index labels' b ≤ slice_index labels' a)
+  followed_end : (a b : ℕ) → slice_index labels' a ≡ count → (q : ℕ) → h ≤ q → IsFollowed heads steps marks q b
+      → (mark_at marks' b ≡ Closed) × (slice_index labels' b ≤ slice_index labels' a)
   followed_end a b e q l (inl s) =
       let m : s.0.from < h = before s.0 s.1 in
       let f : s.0.from ≡ q = s.2 in
@@ -167,7 +172,8 @@ module _ (needs : List (List ℕ)) (path heads : List ℕ) (steps : List Step) (
         ((stays b f.0).0, omega arith)
   ]
 
-  old_label : (a : ℕ) → mark_at marks' a ≡ Closed → mark_at marks' a ≡ mark_at marks a → slice_index labels' a ≡ slice_index labels a → slice_index labels' a < count
+  old_label : (a : ℕ) → mark_at marks' a ≡ Closed → mark_at marks' a ≡ mark_at marks a → slice_index labels' a ≡ slice_index labels a
+      → slice_index labels' a < count
   old_label a c e f = let g : slice_index labels a < count = P.below a (sym e ∙ c) in omega arith
 
   reach_within : (a b p q : ℕ) → mark_at marks a ≡ Open p → mark_at marks b ≡ Open q → h ≤ q → Reaches needs a b
@@ -183,7 +189,8 @@ module _ (needs : List (List ℕ)) (path heads : List ℕ) (steps : List Step) (
       by : ((q : ℕ) × (h ≤ q) × (mark_at marks a ≡ Open q) × (mark_at marks' a ≡ Closed) × (slice_index labels' a ≡ count))
           ⊎ ((mark_at marks' a ≡ mark_at marks a) × (slice_index labels' a ≡ slice_index labels a) × ((q : ℕ) → mark_at marks a ≡ Open q → q < h))
           → ((q : ℕ) × (h ≤ q) × (mark_at marks b ≡ Open q) × (mark_at marks' b ≡ Closed) × (slice_index labels' b ≡ count))
-          ⊎ ((mark_at marks' b ≡ mark_at marks b) × (slice_index labels' b ≡ slice_index labels b) × ((q : ℕ) → mark_at marks b ≡ Open q → q < h)) → Reaches needs a b
+          ⊎ ((mark_at marks' b ≡ mark_at marks b) × (slice_index labels' b ≡ slice_index labels b) × ((q : ℕ) → mark_at marks b ≡ Open q → q < h))
+          → Reaches needs a b
       by (inl p) (inl q) = reach_within a b p.0 q.0 p.2 q.2 q.1
       by (inl p) (inr q) = let f : slice_index labels' a ≡ count = p.4 in let g : slice_index labels' b < count = old_label b d q.0 q.1 in absurd (omega arith)
       by (inr p) (inl q) = let f : slice_index labels' b ≡ count = q.4 in let g : slice_index labels' a < count = old_label a c p.0 p.1 in absurd (omega arith)
@@ -201,8 +208,12 @@ module _ (needs : List (List ℕ)) (path heads : List ℕ) (steps : List Step) (
       (s.0, s.1, (stays s.0 s.2).0, (stays s.0 s.2).1 ∙ s.3)
   some l m (inr n) =
       let e : count ≡ l = omega arith in
-      let f : mark_at marks (slice_index path h) ≡ Open h = P.stand h h_in in
-      (slice_index path h, declared needs path heads steps marks labels count P (slice_index path h) (λ g. cc), (closed h (omega arith) h_in).0, (closed h (omega arith) h_in).1 ∙ e)
+      let f : mark_at marks (slice_index path h) ≡ Open h = P.stand h h_in in (
+        slice_index path h,
+        declared needs path heads steps marks labels count P (slice_index path h) (λ g. cc),
+        (closed h (omega arith) h_in).0,
+        (closed h (omega arith) h_in).1 ∙ e,
+      )
 
   follow : (p b : ℕ) → p < h → IsFollowed heads steps marks p b → IsFollowed (take (length heads - 1) heads) steps marks' p b
   follow p b l (inl s) = inl s
@@ -230,7 +241,8 @@ module _ (needs : List (List ℕ)) (path heads : List ℕ) (steps : List Step) (
     joins = joins;
     below = below;
     some = λ l m. some l m (cases_lt l count);
-    room = let e : length (take (length heads - 1) heads) ≡ length heads - 1 = front_long heads in let r : count + length heads + unseen marks ≤ length needs = P.room in omega arith;
+    room = let e : length (take (length heads - 1) heads) ≡ length heads - 1 = front_long heads in let r : count + length heads + unseen marks ≤ length needs =
+        P.room in omega arith;
   }
 
   pub closed_followed : AreFollowed needs (take h path) (take (length heads - 1) heads) steps marks'

@@ -20,7 +20,8 @@ module _ (needs : List (List ℕ)) (labels : List ℕ) (members : List (List ℕ
       let c : Contains (group_at members l) a.0 = subst (λ x. Contains (group_at members x) a.0) a.2 (M.has a.0 a.1) in
       omega (arith, c.1)
 
-  module _ (lists : List (List ℕ)) (firsts : List ℕ) (L : AreLabels needs labels) (G : AreGroupNeeds needs labels (length needs) lists) (long : length lists ≡ count)
+  module _ (lists : List (List ℕ)) (firsts : List ℕ) (L : AreLabels needs labels) (G : AreGroupNeeds needs labels (length needs) lists)
+      (long : length lists ≡ count)
       (firsts_long : length firsts ≡ count) (first : (l : ℕ) → l < count → slice_index firsts l ≡ first_member members l) where
     lower : (l h : ℕ) → Contains (group_at lists l) h → h < l
     lower l h c =
@@ -56,7 +57,8 @@ module _ (needs : List (List ℕ)) (labels : List ℕ) (members : List (List ℕ
       placed a l =
           let a_in : a < length labels = subst (λ n. a < n) (sym L.long) l in
           let l_in : slice_index labels a < length lists = subst (λ n. slice_index labels a < n) (sym long) (known a 0 a_in) in
-          let p : (k : ℕ) × (k < length order) × (slice_index order k ≡ slice_index labels a) = place_of order (slice_index labels a) (O.all (slice_index labels a) l_in) in
+          let p : (k : ℕ) × (k < length order) × (slice_index order k ≡ slice_index labels a) =
+          place_of order (slice_index labels a) (O.all (slice_index labels a) l_in) in
           (p.0, subst (λ xs. Contains xs a) (sym (same p.0 p.1)) (subst (λ x. Contains (group_at members x) a) (sym p.2) (M.has a a_in)))
 
       together : (k a b : ℕ) → StandsIn groups k a → StandsIn groups k b → Reaches needs a b
@@ -76,7 +78,8 @@ module _ (needs : List (List ℕ)) (labels : List ℕ) (members : List (List ℕ
       rising : (k : ℕ) → k < length groups → IsRising (group_at groups k)
       rising k l = subst IsRising (sym (same k (subst (λ n. k < n) groups_long l))) (M.rising (slice_index order k))
 
-      ready_by : (k a b i : ℕ) → StandsIn groups k a → StandsIn groups i b → Uses needs a b → (slice_index labels b ≡ slice_index labels a) ⊎ (slice_index labels b ≢ slice_index labels a) → (i ≡ k) ⊎ (i < k)
+      ready_by : (k a b i : ℕ) → StandsIn groups k a → StandsIn groups i b → Uses needs a b → (slice_index labels b ≡ slice_index labels a)
+          ⊎ (slice_index labels b ≢ slice_index labels a) → (i ≡ k) ⊎ (i < k)
       ready_by k a b i c d u (inl e) = inl (same_place i k b a d c e)
       ready_by k a b i c d u (inr ne) =
           let k_in : k < length order = in_order k a c in
@@ -88,22 +91,27 @@ module _ (needs : List (List ℕ)) (labels : List ℕ) (members : List (List ℕ
           inr (omega arith)
 
       -- what the group of a needs is placed before j
-      need_before : (j k h a b i : ℕ) → h ≢ slice_index order k → slice_index labels b ≡ h → StandsIn groups i b → (i ≡ k) ⊎ (i < j) → (g : ℕ) × (g < j) × (slice_index order g ≡ h)
+      need_before : (j k h a b i : ℕ) → h ≢ slice_index order k → slice_index labels b ≡ h → StandsIn groups i b → (i ≡ k) ⊎ (i < j)
+          → (g : ℕ) × (g < j) × (slice_index order g ≡ h)
       need_before j k h a b i ne f d (inl e) = absurd (ne (sym f ∙ (label_of i b d).1 ∙ ap (λ x. slice_index order x) e))
       need_before j k h a b i ne f d (inr m) = (i, m, sym (label_of i b d).1 ∙ f)
 
-      before : (j k : ℕ) → k < length order → IsReady needs groups j k → (known_uses : (a b : ℕ) → Uses needs a b → b < length needs) → HasBefore lists order j (slice_index order k)
+      before : (j k : ℕ) → k < length order → IsReady needs groups j k → (known_uses : (a b : ℕ) → Uses needs a b → b < length needs)
+          → HasBefore lists order j (slice_index order k)
       before j k l r known_uses h c =
-          let p : (h ≢ slice_index order k) × ((a : ℕ) × (b : ℕ) × Uses needs a b × (slice_index labels a ≡ slice_index order k) × (slice_index labels b ≡ h)) = G.only (slice_index order k) h c in
+          let p : (h ≢ slice_index order k) × ((a : ℕ) × (b : ℕ) × Uses needs a b × (slice_index labels a ≡ slice_index order k) × (slice_index labels b ≡ h)) =
+          G.only (slice_index order k) h c in
           let a_in : p.1.0 < length labels = subst (λ n. p.1.0 < n) (sym L.long) (within needs p.1.0 p.1.1 p.1.2) in
-          let a_here : StandsIn groups k p.1.0 = subst (λ xs. Contains xs p.1.0) (sym (same k l)) (subst (λ x. Contains (group_at members x) p.1.0) p.1.3 (M.has p.1.0 a_in)) in
+          let a_here : StandsIn groups k p.1.0 = subst (λ xs. Contains xs p.1.0) (sym (same k l))
+          (subst (λ x. Contains (group_at members x) p.1.0) p.1.3 (M.has p.1.0 a_in)) in
           let at_b : (i : ℕ) × StandsIn groups i p.1.1 = placed p.1.1 (known_uses p.1.0 p.1.1 p.1.2) in
           need_before j k h p.1.0 p.1.1 at_b.0 p.0 p.1.4 at_b.1 (r p.1.0 p.1.1 at_b.0 a_here at_b.1 p.1.2)
 
       first_at : (k : ℕ) → k < length order → first_member groups k ≡ slice_index firsts (slice_index order k)
       first_at k l = ap (λ xs. slice_index xs 0) (same k l) ∙ sym (first (slice_index order k) (subst (λ n. slice_index order k < n) long (O.known k l)))
 
-      least : ((a b : ℕ) → Uses needs a b → b < length needs) → (j k : ℕ) → j < k → k < length groups → IsReady needs groups j k → first_member groups j < first_member groups k
+      least : ((a b : ℕ) → Uses needs a b → b < length needs) → (j k : ℕ) → j < k → k < length groups → IsReady needs groups j k
+          → first_member groups j < first_member groups k
       least known_uses j k l m r =
           let k_in : k < length order = subst (λ n. k < n) groups_long m in
           let f : slice_index firsts (slice_index order j) < slice_index firsts (slice_index order k) = O.least j k l k_in (before j k k_in r known_uses) in

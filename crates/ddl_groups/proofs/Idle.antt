@@ -73,7 +73,8 @@ nil_if_short [] none = refl
 nil_if_short (x ∷ xs) none = absurd (none (omega arith))
 
 -- all groups are closed
-pub end_idle : (needs : List (List ℕ)) (search : Search) → Holds needs search → ((h : ℕ) → Contains search.heads.items h → h < 0) → length search.pending.items ≡ 0 → IsIdle needs search
+pub end_idle : (needs : List (List ℕ)) (search : Search) → Holds needs search → ((h : ℕ) → Contains search.heads.items h → h < 0)
+    → length search.pending.items ≡ 0 → IsIdle needs search
 end_idle needs search H below none =
     let no_head : (h : ℕ) → Contains search.heads.items h → ⊥ = λ h c. omega (arith, below h c) in
     (H, nil_if_short search.path.items (λ l. no_head 0 (H.path.first l)), nil_if_none search.heads.items no_head, no_steps_if_short search.pending.items none)
@@ -86,7 +87,8 @@ closed_if Closed ne no_place = refl
 -- all is seen, and nothing is on the path
 module _ (needs : List (List ℕ)) (search : Search) (I : IsIdle needs search) (seen : (v : ℕ) → v < length needs → mark_at search.marks.items v ≢ Unseen) where
   closed : (v : ℕ) → v < length needs → mark_at search.marks.items v ≡ Closed
-  closed v l = closed_if (mark_at search.marks.items v) (seen v l) (λ q e. let m : q < length search.path.items = (I.0.path.places v q e).0 in let f : length search.path.items ≡ 0 = ap (λ (xs : List ℕ). length xs) I.1 in omega arith)
+  closed v l = closed_if (mark_at search.marks.items v) (seen v l) (λ q e. let m : q < length search.path.items =
+      (I.0.path.places v q e).0 in let f : length search.path.items ≡ 0 = ap (λ (xs : List ℕ). length xs) I.1 in omega arith)
 
   pub all_counted : AreCounted needs search.labels.items search.count
   all_counted = record {

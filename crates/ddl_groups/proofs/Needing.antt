@@ -1,5 +1,6 @@
 -- What declarations use, one use and one declaration after another.
-use Rattle.std.proofs.Common.{◌≡◌, ℕ, zero, suc, ◌+◌, ◌-◌, ◌<◌, ◌≤◌, Bool, true, false, List, [], ◌∷◌, ◌++◌, Some, None, Vec, Contains, length, take, drop, get_or, min, if◌then◌else◌, nat_lt, subst, arith, add-one, append-nil, ap, sym, ◌∙◌, refl, ◌⊎◌, inl, inr}
+use Rattle.std.proofs.Common.{◌≡◌, ℕ, zero, suc, ◌+◌, ◌-◌, ◌<◌, ◌≤◌, Bool, true, false, List, [], ◌∷◌, ◌++◌, Some, None, Vec, Contains, length, take, drop}
+use Rattle.std.proofs.Common.{get_or, min, if◌then◌else◌, nat_lt, subst, arith, add-one, append-nil, ap, sym, ◌∙◌, refl, ◌⊎◌, inl, inr}
 use Rattle.std.specs.declared.alloc.Global.{Global}
 use Rattle.std.proofs.lemmas.Bool.{cases_lt, ltb-true}
 use Rattle.std.proofs.lemmas.List.{get_or-map, get_or_past, length-map, map_push, take_all}
@@ -19,7 +20,8 @@ use Rattle.ddl_groups.specs.Placing.{lists_of}
 use Rattle.ddl_groups.proofs.CutAt.{cut_inner, cut_last, rest_is, sliced}
 
 -- what one more use adds
-pub needs_more : (count : ℕ) (us : List Use) (k : ℕ) (d : Use) → k < length us → needs_in count (take (k + 1) us) ≡ needs_in count (take k us) ++ listed (declared count (get_or us k d).bound)
+pub needs_more : (count : ℕ) (us : List Use) (k : ℕ) (d : Use) → k < length us
+    → needs_in count (take (k + 1) us) ≡ needs_in count (take k us) ++ listed (declared count (get_or us k d).bound)
 needs_more count us k d l =
     let q : take (k + 1) us ≡ take k us ++ get_or us k d ∷ [] = rw (add-one, take-suc us k d l) refl in
     ap (needs_in count) q ∙ flat_map-append (λ v. listed (declared count v.bound)) (take k us) (get_or us k d ∷ [])
@@ -40,7 +42,8 @@ pub inner_uses : (ds : List DeclInfo) (us : List Use) (k c m n : ℕ) (d e : Dec
     → take n (take (length us - m) (drop m us)) ≡ get_or (cut_at us (firsts_of ds)) k []
 inner_uses ds us k c m n d e l em ec en =
     let f : get_or (firsts_of ds) k 0 ≡ (get_or ds k d).first_use = first_at ds k d (omega arith) in
-    let g : get_or (firsts_of ds) (suc k) 0 ≡ (get_or ds (k + 1) e).first_use = ap (λ i. get_or (firsts_of ds) i 0) (sym (add-one k)) ∙ first_at ds (k + 1) e l in
+    let g : get_or (firsts_of ds) (suc k) 0 ≡ (get_or ds (k + 1) e).first_use = ap (λ i. get_or (firsts_of ds) i 0) (sym (add-one k))
+    ∙ first_at ds (k + 1) e l in
     let long : suc k < length (firsts_of ds) = rw (firsts_long ds) (omega arith) in
     sliced us (get_or ds k d).first_use c m n em en
     ∙ rw (ec, ← f, ← g) refl ∙ sym (cut_inner us (firsts_of ds) k long)
@@ -49,7 +52,8 @@ inner_uses ds us k c m n d e l em ec en =
 pub last_uses : (ds : List DeclInfo) (us : List Use) (k m : ℕ) (d : DeclInfo) → k < length ds → length ds ≤ k + 1
     → m ≡ min (get_or ds k d).first_use (length us) → take (length us - m) (drop m us) ≡ get_or (cut_at us (firsts_of ds)) k []
 last_uses ds us k m d l last em =
-    rw em (rest_is us (get_or ds k d).first_use) ∙ ap (λ f. drop f us) (sym (first_at ds k d l)) ∙ sym (cut_last us (firsts_of ds) k (rw (firsts_long ds) (omega arith)))
+    rw em (rest_is us (get_or ds k d).first_use) ∙ ap (λ f. drop f us) (sym (first_at ds k d l))
+    ∙ sym (cut_last us (firsts_of ds) k (rw (firsts_long ds) (omega arith)))
 
 -- ---- what all declarations use
 

@@ -1,5 +1,6 @@
 -- One more number was added to a list of lists.
-use Rattle.std.proofs.Common.{◌≡◌, ℕ, ◌+◌, ◌<◌, ◌≤◌, ◌≢◌, List, [], ◌∷◌, ◌++◌, length, slice_index, take, Contains, refl, ap, sym, subst, ◌∙◌, ◌⊎◌, inl, inr, arith, length-set}
+use Rattle.std.proofs.Common.{◌≡◌, ℕ, ◌+◌, ◌<◌, ◌≤◌, ◌≢◌, List, [], ◌∷◌, ◌++◌, length, slice_index, take, Contains, refl, ap, sym, subst, ◌∙◌, ◌⊎◌, inl, inr}
+use Rattle.std.proofs.Common.{arith, length-set}
 use Rattle.std.specs.List.{AllByRecursion}
 use Rattle.std.proofs.lemmas.Bool.{cases_lt}
 use Rattle.std.proofs.lemmas.List.{take_more}
@@ -20,7 +21,8 @@ module _ (lists : List (List ℕ)) (at value : ℕ) (at_in : at < length lists) 
       old_or_new (inl m) e = inl (subst (λ x. Contains (group_at lists x) h) (sym e) m)
       old_or_new (inr f) e = inr (e, sym f)
 
-      by : ((l ≡ at) × (group_at (added lists at value) l ≡ group_at lists at ++ value ∷ [])) ⊎ ((l ≢ at) × (group_at (added lists at value) l ≡ group_at lists l))
+      by : ((l ≡ at) × (group_at (added lists at value) l ≡ group_at lists at ++ value ∷ []))
+          ⊎ ((l ≢ at) × (group_at (added lists at value) l ≡ group_at lists l))
           → Contains (group_at lists l) h ⊎ ((l ≡ at) × (h ≡ value))
       by (inl p) = old_or_new (Contains-push_cases (group_at lists at) value h (subst (λ xs. Contains xs h) p.1 c)) p.0
       by (inr p) = inl (subst (λ xs. Contains xs h) p.1 c)
@@ -58,7 +60,8 @@ module _ (labels : List ℕ) (a : ℕ) (lists : List (List ℕ)) (M : AreMembers
 
   rising : (l : ℕ) → IsRising (group_at (added lists (slice_index labels a) a) l)
   rising l = elim (written lists (slice_index labels a) (group_at lists (slice_index labels a) ++ a ∷ []) [] l_in l) [
-    | inl p ↦ subst IsRising (sym p.1) (rising_push (group_at lists (slice_index labels a)) a (M.rising (slice_index labels a)) (λ x c. (M.only (slice_index labels a) x c).0))
+    | inl p ↦ subst IsRising (sym p.1) (rising_push (group_at lists (slice_index labels a)) a (M.rising (slice_index labels a)) (λ x c.
+        (M.only (slice_index labels a) x c).0))
     | inr p ↦ subst IsRising (sym p.1) (M.rising l)
   ]
 
@@ -73,11 +76,13 @@ module _ (labels : List ℕ) (a : ℕ) (lists : List (List ℕ)) (M : AreMembers
 module _ (needs users : List (List ℕ)) (U : AreUsers needs users) (l h : ℕ) (l_in : l < length needs) (h_in : h < length users) where
   used : (x y : ℕ) → Contains (group_at needs x) y ⊎ ((x ≡ l) × (y ≡ h)) → Contains (group_at (added users h l) y) x
   used x y (inl c) = keeps users h l h_in y x (U.used x y c)
-  used x y (inr p) = subst (λ v. Contains (group_at (added users h l) v) x) (sym p.1) (subst (λ v. Contains (group_at (added users h l) h) v) (sym p.0) (has_new users h l h_in))
+  used x y (inr p) = subst (λ v. Contains (group_at (added users h l) v) x) (sym p.1)
+      (subst (λ v. Contains (group_at (added users h l) h) v) (sym p.0) (has_new users h l h_in))
 
   using : (x y : ℕ) → Contains (group_at users y) x ⊎ ((y ≡ h) × (x ≡ l)) → Contains (group_at (added needs l h) x) y
   using x y (inl c) = keeps needs l h l_in x y (U.using x y c)
-  using x y (inr p) = subst (λ v. Contains (group_at (added needs l h) v) y) (sym p.1) (subst (λ v. Contains (group_at (added needs l h) l) v) (sym p.0) (has_new needs l h l_in))
+  using x y (inr p) = subst (λ v. Contains (group_at (added needs l h) v) y) (sym p.1)
+      (subst (λ v. Contains (group_at (added needs l h) l) v) (sym p.0) (has_new needs l h l_in))
 
   pub users_more : AreUsers (added needs l h) (added users h l)
   users_more = record {
@@ -104,7 +109,8 @@ module _ (before : List (List ℕ)) (label : ℕ) (all labels : List ℕ) (lists
 
   -- the next one has the label itself
   module _ (same : slice_index labels (slice_index all i) ≡ label) where
-    has_same : (b : ℕ) → slice_index labels b ≢ label → Contains (take i all) b ⊎ (slice_index all i ≡ b) → Contains (group_at lists label) (slice_index labels b)
+    has_same : (b : ℕ) → slice_index labels b ≢ label → Contains (take i all) b ⊎ (slice_index all i ≡ b)
+        → Contains (group_at lists label) (slice_index labels b)
     has_same b ne (inl c) = M.has b c ne
     has_same b ne (inr e) = absurd (ne (subst (λ x. slice_index labels x ≡ label) e same))
 
@@ -135,13 +141,16 @@ module _ (before : List (List ℕ)) (label : ℕ) (all labels : List ℕ) (lists
 
 module _ (needs : List (List ℕ)) (labels : List ℕ) (a : ℕ) (lists after : List (List ℕ)) (G : AreGroupNeeds needs labels a lists)
     (M : AreNeedsMore lists (slice_index labels a) (group_at needs a) labels after) where
-  has : (x b : ℕ) → x < a + 1 → (x < a) ⊎ (a ≤ x) → Uses needs x b → slice_index labels b ≢ slice_index labels x → Contains (group_at after (slice_index labels x)) (slice_index labels b)
+  has : (x b : ℕ) → x < a + 1 → (x < a) ⊎ (a ≤ x) → Uses needs x b → slice_index labels b ≢ slice_index labels x
+      → Contains (group_at after (slice_index labels x)) (slice_index labels b)
   has x b l (inl m) u ne = M.kept (slice_index labels x) (slice_index labels b) (G.has x b m u ne)
   has x b l (inr m) u ne =
       let e : a ≡ x = omega arith in
-      subst (λ y. Uses needs y b → slice_index labels b ≢ slice_index labels y → Contains (group_at after (slice_index labels y)) (slice_index labels b)) e (λ v n. M.has b v n) u ne
+      subst (λ y. Uses needs y b → slice_index labels b ≢ slice_index labels y → Contains (group_at after (slice_index labels y)) (slice_index labels b)) e
+      (λ v n. M.has b v n) u ne
 
-  only_so : (l h : ℕ) → Contains (group_at lists l) h ⊎ ((l ≡ slice_index labels a) × (h ≢ slice_index labels a) × ((b : ℕ) × Contains (group_at needs a) b × (slice_index labels b ≡ h)))
+  only_so : (l h : ℕ) → Contains (group_at lists l) h ⊎ ((l ≡ slice_index labels a) × (h ≢ slice_index labels a)
+      × ((b : ℕ) × Contains (group_at needs a) b × (slice_index labels b ≡ h)))
       → (h ≢ l) × ((x : ℕ) × (b : ℕ) × Uses needs x b × (slice_index labels x ≡ l) × (slice_index labels b ≡ h))
   only_so l h (inl c) = G.only l h c
   only_so l h (inr p) = ((λ e. p.1 (e ∙ p.0)), (a, p.2.0, p.2.1, sym p.0, p.2.2))

@@ -135,7 +135,8 @@ module _ (needs : List (List ℕ)) where
       let m : 0 < length {A = ℕ} [] = subst P e (H.some (length g) l) in
       omega arith
 
-  same_length : (g h : List (List ℕ)) → AreGroups needs g → AreGroups needs h → (length g ≡ length h) ⊎ ((length g < length h) ⊎ (length h < length g)) → length g ≡ length h
+  same_length : (g h : List (List ℕ)) → AreGroups needs g → AreGroups needs h → (length g ≡ length h) ⊎ ((length g < length h) ⊎ (length h < length g))
+      → length g ≡ length h
   same_length g h G H (inl e) = e
   same_length g h G H (inr (inl l)) = absurd (not_longer g h H (all_agree g h G H (suc (length g))) l)
   same_length g h G H (inr (inr l)) = absurd (not_longer h g G (all_agree h g H G (suc (length h))) l)

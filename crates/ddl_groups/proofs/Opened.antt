@@ -1,5 +1,6 @@
 -- A declaration that the search comes to was put at the end of its path.
-use Rattle.std.proofs.Common.{◌≡◌, ℕ, ◌+◌, ◌<◌, ◌≤◌, ◌≢◌, List, [], ◌∷◌, ◌++◌, length, slice_index, set, Contains, refl, ap, sym, subst, ◌∙◌, ◌⊎◌, inl, inr, arith, length-append, length-set}
+use Rattle.std.proofs.Common.{◌≡◌, ℕ, ◌+◌, ◌<◌, ◌≤◌, ◌≢◌, List, [], ◌∷◌, ◌++◌, length, slice_index, set, Contains, refl, ap, sym, subst, ◌∙◌, ◌⊎◌, inl, inr}
+use Rattle.std.proofs.Common.{arith, length-append, length-set}
 use Rattle.std.proofs.Math.Seq.{get_or-append_seam}
 use Rattle.std.proofs.lemmas.Bool.{cases_lt}
 use Rattle.std.proofs.lemmas.List.{get_or_append_left}
@@ -16,12 +17,15 @@ use Rattle.ddl_groups.proofs.Placed.{pushed_at}
 use Rattle.ddl_groups.proofs.Settled.{member_at, written}
 
 module _ (needs : List (List ℕ)) (path heads : List ℕ) (steps : List Step) (marks : List Mark) (labels : List ℕ) (count w : ℕ)
-    (P : IsPath needs path heads steps marks labels count) (F : AreFollowedBut needs path heads steps marks w) (new : mark_at marks w ≡ Unseen) (w_in : w < length needs)
-    (reached : (p : ℕ) → p < length path → Reaches needs (slice_index path p) w) (after : List Step) (M : StepsMore steps (length path) (group_at needs w) after) where
+    (P : IsPath needs path heads steps marks labels count) (F : AreFollowedBut needs path heads steps marks w) (new : mark_at marks w ≡ Unseen)
+    (w_in : w < length needs)
+    (reached : (p : ℕ) → p < length path → Reaches needs (slice_index path p) w) (after : List Step)
+    (M : StepsMore steps (length path) (group_at needs w) after) where
   marks_in : w < length marks
   marks_in = rw P.marks_long w_in
 
-  marked : (v : ℕ) → ((v ≡ w) × (mark_at (set marks w (Open (length path))) v ≡ Open (length path))) ⊎ ((v ≢ w) × (mark_at (set marks w (Open (length path))) v ≡ mark_at marks v))
+  marked : (v : ℕ) → ((v ≡ w) × (mark_at (set marks w (Open (length path))) v ≡ Open (length path)))
+      ⊎ ((v ≢ w) × (mark_at (set marks w (Open (length path))) v ≡ mark_at marks v))
   marked v = written marks w (Open (length path)) Unseen marks_in v
 
   -- what is not unseen keeps its mark
@@ -35,7 +39,11 @@ module _ (needs : List (List ℕ)) (path heads : List ℕ) (steps : List Step) (
   same_closed v e = same_mark v Closed (λ f. cc) e
 
   was_closed : (v : ℕ) → mark_at (set marks w (Open (length path))) v ≡ Closed → mark_at marks v ≡ Closed
-  was_closed v e = elim (marked v) [ inl p ↦ let f : mark_at (set marks w (Open (length path))) v ≡ Open (length path) = p.1 in absurd cc | inr p ↦ sym p.1 ∙ e ]
+  was_closed v e = elim (marked v) [
+    | inl p ↦ let f : mark_at (set marks w (Open (length path))) v ≡ Open (length path) = p.1 in absurd cc
+    | inr p ↦ sym p.1
+        ∙ e
+  ]
 
   now_open : mark_at (set marks w (Open (length path))) w ≡ Open (length path)
   now_open = elim (marked w) [ inl p ↦ p.1 | inr p ↦ absurd (p.0 refl) ]
@@ -86,7 +94,8 @@ module _ (needs : List (List ℕ)) (path heads : List ℕ) (steps : List Step) (
   first (inl l) = Contains-append_left heads (length path ∷ []) 0 (P.first l)
   first (inr l) = let e : length path ≡ 0 = omega arith in subst (λ x. Contains (heads ++ length path ∷ []) x) e (Contains-push heads (length path))
 
-  leads : (p q : ℕ) → IsBehind (heads ++ length path ∷ []) p q → ((p < length path) × (slice_index (path ++ w ∷ []) p ≡ slice_index path p)) ⊎ ((p ≡ length path) × (slice_index (path ++ w ∷ []) p ≡ w))
+  leads : (p q : ℕ) → IsBehind (heads ++ length path ∷ []) p q → ((p < length path) × (slice_index (path ++ w ∷ []) p ≡ slice_index path p))
+      ⊎ ((p ≡ length path) × (slice_index (path ++ w ∷ []) p ≡ w))
       → ((q < length path) × (slice_index (path ++ w ∷ []) q ≡ slice_index path q)) ⊎ ((q ≡ length path) × (slice_index (path ++ w ∷ []) q ≡ w))
       → Reaches needs (slice_index (path ++ w ∷ []) p) (slice_index (path ++ w ∷ []) q)
   leads p q behind (inl a) (inl b) = rw (a.1, b.1) (P.leads p q a.0 b.0 (λ h c m. behind h (Contains-append_left heads (length path ∷ []) h c) m))
@@ -96,7 +105,8 @@ module _ (needs : List (List ℕ)) (path heads : List ℕ) (steps : List Step) (
       absurd (omega (arith, b.0))
   leads p q behind (inr a) (inr b) = rw (a.1, b.1) ([], refl)
 
-  steps_in : (s : Step) → Contains steps s ⊎ ((s.from ≡ length path) × Contains (group_at needs w) s.to) → (s.from < length (path ++ w ∷ [])) × Uses needs (slice_index (path ++ w ∷ []) s.from) s.to
+  steps_in : (s : Step) → Contains steps s ⊎ ((s.from ≡ length path) × Contains (group_at needs w) s.to)
+      → (s.from < length (path ++ w ∷ [])) × Uses needs (slice_index (path ++ w ∷ []) s.from) s.to
   steps_in s (inl c) =
       let l : s.from < length path = (P.steps_in s c).0 in
       (omega (arith, longer), subst (λ x. Uses needs x s.to) (sym (old_at s.from l)) (P.steps_in s c).1)
@@ -105,7 +115,8 @@ module _ (needs : List (List ℕ)) (path heads : List ℕ) (steps : List Step) (
 
   fewer : unseen (set marks w (Open (length path))) + 1 ≡ unseen marks
   fewer =
-      let e : unseen (set marks w (Open (length path))) + weight (mark_at marks w) ≡ unseen marks + 0 = sum_by-set weight marks w (Open (length path)) Unseen marks_in in
+      let e : unseen (set marks w (Open (length path))) + weight (mark_at marks w) ≡ unseen marks + 0 =
+      sum_by-set weight marks w (Open (length path)) Unseen marks_in in
       let f : weight (mark_at marks w) ≡ 1 = ap weight new in
       omega arith
 
@@ -128,7 +139,8 @@ module _ (needs : List (List ℕ)) (path heads : List ℕ) (steps : List Step) (
     room = let r : count + length heads + unseen marks ≤ length needs = P.room in omega (arith, fewer, length-append heads (length path ∷ []));
   }
 
-  old_follow : (p b : ℕ) → p < length path → (b ≡ w) ⊎ IsFollowed heads steps marks p b → IsFollowed (heads ++ length path ∷ []) after (set marks w (Open (length path))) p b
+  old_follow : (p b : ℕ) → p < length path → (b ≡ w) ⊎ IsFollowed heads steps marks p b
+      → IsFollowed (heads ++ length path ∷ []) after (set marks w (Open (length path))) p b
   old_follow p b l (inl e) = inr (inr (length path, ap (λ x. mark_at (set marks w (Open (length path))) x) e ∙ now_open, λ h c m. omega arith))
   old_follow p b l (inr (inl s)) = inl (s.0, M.kept s.0 s.1, s.2, s.3)
   old_follow p b l (inr (inr (inl c))) = inr (inl (same_closed b c))
@@ -146,6 +158,10 @@ module _ (needs : List (List ℕ)) (path heads : List ℕ) (steps : List Step) (
   pub is_opened : IsOpened marks w (set marks w (Open (length path)))
   is_opened = (
     omega (arith, fewer),
-    (λ v ne e. elim (marked v) [ inl p ↦ let f : mark_at (set marks w (Open (length path))) v ≡ Open (length path) = p.1 in absurd cc | inr p ↦ ne (sym p.1 ∙ e) ]),
+    (λ v ne e. elim (marked v) [
+      | inl p ↦ let f : mark_at (set marks w (Open (length path))) v ≡ Open (length path) =
+          p.1 in absurd cc
+      | inr p ↦ ne (sym p.1 ∙ e)
+    ]),
     (λ e. let f : mark_at (set marks w (Open (length path))) w ≡ Open (length path) = now_open in cc),
   )

@@ -1,5 +1,6 @@
 -- One more group was placed.
-use Rattle.std.proofs.Common.{◌≡◌, ℕ, zero, suc, ◌+◌, ◌<◌, ◌≤◌, ◌≢◌, Bool, true, false, List, [], ◌∷◌, ◌++◌, length, get_or, slice_index, set, Contains, refl, ap, sym, subst, ◌∙◌, ◌⊎◌, inl, inr, arith, length-append, length-set}
+use Rattle.std.proofs.Common.{◌≡◌, ℕ, zero, suc, ◌+◌, ◌<◌, ◌≤◌, ◌≢◌, Bool, true, false, List, [], ◌∷◌, ◌++◌, length, get_or, slice_index, set, Contains, refl}
+use Rattle.std.proofs.Common.{ap, sym, subst, ◌∙◌, ◌⊎◌, inl, inr, arith, length-append, length-set}
 use Rattle.std.specs.List.{All}
 use Rattle.std.proofs.Math.Seq.{get_or-append_seam}
 use Rattle.std.proofs.lemmas.Bool.{cases_lt, cases_eq}
@@ -17,10 +18,12 @@ place_of xs x c = (c.0, c.1, get_or_default xs c.0 0 x c.1 ∙ c.2)
 pub at_place : (xs : List ℕ) (k x : ℕ) → k < length xs → slice_index xs k ≡ x → Contains xs x
 at_place xs k x l e = (k, l, get_or_default xs k x 0 l ∙ e)
 
-pub pushed_at : (xs : List ℕ) (y k : ℕ) → k < length (xs ++ y ∷ []) → ((k < length xs) × (slice_index (xs ++ y ∷ []) k ≡ slice_index xs k)) ⊎ ((k ≡ length xs) × (slice_index (xs ++ y ∷ []) k ≡ y))
+pub pushed_at : (xs : List ℕ) (y k : ℕ) → k < length (xs ++ y ∷ []) → ((k < length xs) × (slice_index (xs ++ y ∷ []) k ≡ slice_index xs k))
+    ⊎ ((k ≡ length xs) × (slice_index (xs ++ y ∷ []) k ≡ y))
 pushed_at xs y k l = by (cases_lt k (length xs))
   where
-    by : (k < length xs) ⊎ (length xs ≤ k) → ((k < length xs) × (slice_index (xs ++ y ∷ []) k ≡ slice_index xs k)) ⊎ ((k ≡ length xs) × (slice_index (xs ++ y ∷ []) k ≡ y))
+    by : (k < length xs) ⊎ (length xs ≤ k) → ((k < length xs) × (slice_index (xs ++ y ∷ []) k ≡ slice_index xs k))
+        ⊎ ((k ≡ length xs) × (slice_index (xs ++ y ∷ []) k ≡ y))
     by (inl m) = inl (m, get_or_append_left xs (y ∷ []) 0 k m)
     by (inr m) =
         let n : length (xs ++ y ∷ []) ≡ length xs + 1 = length-append xs (y ∷ []) in
@@ -100,7 +103,8 @@ module _ (needs : List (List ℕ)) (firsts labels : List ℕ) (placed : List Boo
   once j k m n e = by (pushed_at order l j m) (pushed_at order l k n)
     where
       by : ((j < length order) × (slice_index (order ++ l ∷ []) j ≡ slice_index order j)) ⊎ ((j ≡ length order) × (slice_index (order ++ l ∷ []) j ≡ l))
-          → ((k < length order) × (slice_index (order ++ l ∷ []) k ≡ slice_index order k)) ⊎ ((k ≡ length order) × (slice_index (order ++ l ∷ []) k ≡ l)) → j ≡ k
+          → ((k < length order) × (slice_index (order ++ l ∷ []) k ≡ slice_index order k)) ⊎ ((k ≡ length order) × (slice_index (order ++ l ∷ []) k ≡ l))
+          → j ≡ k
       by (inl p) (inl q) = P.once j k p.0 q.0 (sym p.1 ∙ e ∙ q.1)
       by (inl p) (inr q) = absurd (not_there j p.0 (sym p.1 ∙ e ∙ q.1))
       by (inr p) (inl q) = absurd (not_there k q.0 (sym q.1 ∙ sym e ∙ p.1))
@@ -140,10 +144,14 @@ module _ (needs : List (List ℕ)) (firsts labels : List ℕ) (placed : List Boo
   ]
 
   stood : (x : ℕ) → Contains (order ++ l ∷ []) x → IsPlaced (set placed l true) x
-  stood x c = elim (Contains-push_cases order l x c) [ inl m ↦ still_placed x (P.stood x m) | inr e ↦ subst (λ y. IsPlaced (set placed l true) y) e this_placed ]
+  stood x c = elim (Contains-push_cases order l x c) [
+    | inl m ↦ still_placed x (P.stood x m)
+    | inr e ↦ subst (λ y. IsPlaced (set placed l true) y) e this_placed
+  ]
 
   -- a group that might have stood here has a greater first member
-  greater : (x : ℕ) → x < length needs → x ≢ l → ((h : ℕ) → Contains (group_at needs x) h → IsPlaced placed h) → IsAwaited needs firsts placed ready [] 0 x → d < slice_index firsts x
+  greater : (x : ℕ) → x < length needs → x ≢ l → ((h : ℕ) → Contains (group_at needs x) h → IsPlaced placed h) → IsAwaited needs firsts placed ready [] 0 x
+      → d < slice_index firsts x
   greater x x_in ne met (inl c) = elim (others (slice_index firsts x) c) [ inl e ↦ absurd (ne (of_first x x_in e)) | inr m ↦ (rest (slice_index firsts x) m).1 ]
   greater x x_in ne met (inr (inl h)) = absurd (both placed h.0 (met h.0 h.1) h.2)
   greater x x_in ne met (inr (inr k)) = absurd (omega (arith, k.2))
@@ -157,7 +165,8 @@ module _ (needs : List (List ℕ)) (firsts labels : List ℕ) (placed : List Boo
       by (inl p) = let q : j < length order = p.0 in rw p.1 (P.later j x p.0 x_in (open_before x o).1 (back j x (omega arith) b))
       by (inr p) =
           let all : HasBefore needs order (length order) x = back (length order) x (omega arith) (subst (λ i. HasBefore needs (order ++ l ∷ []) i x) p.0 b) in
-          rw (p.1, l_first) (greater x x_in (open_before x o).0 (λ h c. P.stood h (at_place order (all h c).0 h (all h c).1 (all h c).2)) (W.others x x_in (open_before x o).1))
+          rw (p.1, l_first) (greater x x_in (open_before x o).0 (λ h c. P.stood h (at_place order (all h c).0 h (all h c).1 (all h c).2))
+          (W.others x x_in (open_before x o).1))
 
   pub placed_one : IsPlacing needs firsts (set placed l true) (order ++ l ∷ [])
   placed_one = record {
@@ -182,14 +191,16 @@ module _ (needs : List (List ℕ)) (firsts labels : List ℕ) (placed : List Boo
     pub has_users : l < length users
     has_users = rw U.long l_in
 
-    in_hand : (x h : ℕ) → Contains (group_at needs x) h → IsOpen placed h → (h ≡ l) ⊎ (h ≢ l) → IsAwaited needs firsts (set placed l true) after (group_at users l) 0 x
+    in_hand : (x h : ℕ) → Contains (group_at needs x) h → IsOpen placed h → (h ≡ l) ⊎ (h ≢ l)
+        → IsAwaited needs firsts (set placed l true) after (group_at users l) 0 x
     in_hand x h c o (inl e) =
         let p : (k : ℕ) × (k < length (group_at users l)) × (slice_index (group_at users l) k ≡ x) =
         place_of (group_at users l) x (U.used x l (subst (λ y. Contains (group_at needs x) y) e c)) in
         inr (inr (p.0, omega arith, p.1, p.2))
     in_hand x h c o (inr ne) = inr (inl (h, c, still_open h ne o))
 
-    awaited : (x : ℕ) → x < length needs → x ≢ l → IsAwaited needs firsts placed ready [] 0 x → IsAwaited needs firsts (set placed l true) after (group_at users l) 0 x
+    awaited : (x : ℕ) → x < length needs → x ≢ l → IsAwaited needs firsts placed ready [] 0 x
+        → IsAwaited needs firsts (set placed l true) after (group_at users l) 0 x
     awaited x x_in ne (inl c) = elim (others (slice_index firsts x) c) [ inl e ↦ absurd (ne (of_first x x_in e)) | inr m ↦ inl m ]
     awaited x x_in ne (inr (inl h)) = in_hand x h.0 h.1 h.2 (cases_eq h.0 l)
     awaited x x_in ne (inr (inr k)) = absurd (omega (arith, k.2))

@@ -1,5 +1,6 @@
 -- What a set of numbers has after an insert, and after its least one was taken.
-use Rattle.std.proofs.Common.{◌≡◌, ℕ, ◌<◌, ◌≤◌, ◌↔◌, List, [], ◌∷◌, Contains, Ordering, Option, Some, None, MatchOption, length, refl, sym, subst, ◌⊎◌, inl, inr, arith}
+use Rattle.std.proofs.Common.{◌≡◌, ℕ, ◌<◌, ◌≤◌, ◌↔◌, List, [], ◌∷◌, Contains, Ordering, Option, Some, None, MatchOption, length, refl, sym, subst, ◌⊎◌, inl}
+use Rattle.std.proofs.Common.{inr, arith}
 use Rattle.std.specs.declared.cmp.Ordering.TheVariants.{Less, Equal, Greater}
 use Rattle.std.specs.Ordering.{nat_cmp, match_ordering, MatchOrdering}
 use Rattle.std.specs.List.{All}
@@ -66,8 +67,11 @@ pub takes : (ks : List ℕ) (r : Option ℕ) (ls : List ℕ) → IfSome r (λ k.
     → (IfNone r (length ks ≡ 0)) → Takes ks r ls
 takes ks None ls e above none = empty_has_none ks none
 takes ks (Some k) ls e above none =
-    let P : ℕ → List ℕ → Type 0 = λ d xs. Contains xs d in
-    (subst (P k) (sym e) (Contains-first k ls), (λ d c. first_or_rest k ls d (subst (P d) e c)), (λ d c. (subst (P d) (sym e) (Contains-rest k ls d c), below_rest k d ls above c)))
+    let P : ℕ → List ℕ → Type 0 = λ d xs. Contains xs d in (
+      subst (P k) (sym e) (Contains-first k ls),
+      (λ d c. first_or_rest k ls d (subst (P d) e c)),
+      (λ d c. (subst (P d) (sym e) (Contains-rest k ls d c), below_rest k d ls above c)),
+    )
 
 pub none_left : (ks : List ℕ) (r : Option ℕ) → IsSome r ↔ (0 < length ks) → IfNone r (length ks ≡ 0)
 none_left ks None e = by (cases_lt 0 (length ks))

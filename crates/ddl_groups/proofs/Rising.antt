@@ -35,7 +35,8 @@ in_rest x y z ys e l (inl q) = absurd (omega arith)
 in_rest x y z ys e l (inr c) = c
 
 -- two that rise and have the same members are one
-pub same_members : (xs ys : List ℕ) → IsRising xs → IsRising ys → ((z : ℕ) → Contains xs z → Contains ys z) → ((z : ℕ) → Contains ys z → Contains xs z) → xs ≡ ys
+pub same_members : (xs ys : List ℕ) → IsRising xs → IsRising ys → ((z : ℕ) → Contains xs z → Contains ys z) → ((z : ℕ) → Contains ys z → Contains xs z)
+    → xs ≡ ys
 same_members [] [] r s f g = refl
 same_members [] (y ∷ ys) r s f g = absurd (none_in_empty y (g y (Contains-first y ys)))
 same_members (x ∷ xs) [] r s f g = absurd (none_in_empty x (f x (Contains-first x xs)))

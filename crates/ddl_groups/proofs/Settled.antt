@@ -1,5 +1,6 @@
 -- One more group in hand was looked at.
-use Rattle.std.proofs.Common.{◌≡◌, ℕ, ◌+◌, ◌-◌, ◌<◌, ◌≤◌, ◌≢◌, ◌↔◌, Bool, List, length, get_or, slice_index, set, Contains, Vec, ap, sym, subst, ◌∙◌, ◌⊎◌, inl, inr, arith, get_or-set_other, get_or-set_same}
+use Rattle.std.proofs.Common.{◌≡◌, ℕ, ◌+◌, ◌-◌, ◌<◌, ◌≤◌, ◌≢◌, ◌↔◌, Bool, List, length, get_or, slice_index, set, Contains, Vec, ap, sym, subst, ◌∙◌, ◌⊎◌, inl}
+use Rattle.std.proofs.Common.{inr, arith, get_or-set_other, get_or-set_same}
 use Rattle.std.specs.declared.alloc.Global.{Global}
 use Rattle.std.proofs.lemmas.Bool.{cases_lt, cases_eq}
 use Rattle.std.proofs.lemmas.List.{get_or-map, get_or_default, length-set, length-map}
@@ -18,7 +19,8 @@ pub member_at : (xs : List ℕ) (k d : ℕ) → k < length xs → Contains xs (g
 member_at xs k d l = (k, l, get_or_default xs k (get_or xs k d) d l)
 
 -- a place is the one that was written, or is as before
-pub written : {X : Type 0} (xs : List X) (i : ℕ) (v d : X) → i < length xs → (x : ℕ) → ((x ≡ i) × (get_or (set xs i v) x d ≡ v)) ⊎ ((x ≢ i) × (get_or (set xs i v) x d ≡ get_or xs x d))
+pub written : {X : Type 0} (xs : List X) (i : ℕ) (v d : X) → i < length xs → (x : ℕ) → ((x ≡ i) × (get_or (set xs i v) x d ≡ v))
+    ⊎ ((x ≢ i) × (get_or (set xs i v) x d ≡ get_or xs x d))
 written {X} xs i v d l x = by (cases_eq x i)
   where
     by : (x ≡ i) ⊎ (x ≢ i) → ((x ≡ i) × (get_or (set xs i v) x d ≡ v)) ⊎ ((x ≢ i) × (get_or (set xs i v) x d ≡ get_or xs x d))
@@ -38,7 +40,8 @@ module _ (needs : List (List ℕ)) (firsts labels : List ℕ) (placed : List Boo
   within : (x : ℕ) → slice_index (set left l rest) x ≤ length (group_at needs x)
   within x = by (put_at left l rest left_in x)
     where
-      by : ((x ≡ l) × (slice_index (set left l rest) x ≡ rest)) ⊎ (slice_index (set left l rest) x ≡ slice_index left x) → slice_index (set left l rest) x ≤ length (group_at needs x)
+      by : ((x ≡ l) × (slice_index (set left l rest) x ≡ rest)) ⊎ (slice_index (set left l rest) x ≡ slice_index left x)
+          → slice_index (set left l rest) x ≤ length (group_at needs x)
       by (inl p) =
           let P : ℕ → Type 0 = λ y. slice_index left y ≤ length (group_at needs x) in
           let m : slice_index left l ≤ length (group_at needs x) = subst P p.0 (W.within x) in
@@ -46,14 +49,16 @@ module _ (needs : List (List ℕ)) (firsts labels : List ℕ) (placed : List Boo
           omega arith
       by (inr e) = let m : slice_index left x ≤ length (group_at needs x) = W.within x in omega arith
 
-  kept_there : (k : ℕ) → rest ≤ k → k < length (group_at needs l) → (k < slice_index left l) ⊎ (slice_index left l ≤ k) → IsPlaced placed (slice_index (group_at needs l) k)
+  kept_there : (k : ℕ) → rest ≤ k → k < length (group_at needs l) → (k < slice_index left l) ⊎ (slice_index left l ≤ k)
+      → IsPlaced placed (slice_index (group_at needs l) k)
   kept_there k m n (inl a) = passed k m a
   kept_there k m n (inr a) = W.kept l k a n
 
   kept : (x k : ℕ) → slice_index (set left l rest) x ≤ k → k < length (group_at needs x) → IsPlaced placed (slice_index (group_at needs x) k)
   kept x k m n = by (put_at left l rest left_in x)
     where
-      by : ((x ≡ l) × (slice_index (set left l rest) x ≡ rest)) ⊎ (slice_index (set left l rest) x ≡ slice_index left x) → IsPlaced placed (slice_index (group_at needs x) k)
+      by : ((x ≡ l) × (slice_index (set left l rest) x ≡ rest)) ⊎ (slice_index (set left l rest) x ≡ slice_index left x)
+          → IsPlaced placed (slice_index (group_at needs x) k)
       by (inl p) =
           let P : ℕ → Type 0 = λ y. k < length (group_at needs y) → IsPlaced placed (slice_index (group_at needs y) k) in
           let e : slice_index (set left l rest) x ≡ rest = p.1 in
@@ -98,7 +103,8 @@ module _ (needs : List (List ℕ)) (firsts labels : List ℕ) (placed : List Boo
     }
 
   -- it has none, and is ready
-  module _ (none : rest ≡ 0) (l_open : IsOpen placed l) (after : List ℕ) (added : (d : ℕ) → Contains after d ↔ ((d ≡ slice_index firsts l) ⊎ Contains ready d)) where
+  module _ (none : rest ≡ 0) (l_open : IsOpen placed l) (after : List ℕ) (added : (d : ℕ)
+      → Contains after d ↔ ((d ≡ slice_index firsts l) ⊎ Contains ready d)) where
     first_is : (slice_index firsts l < length labels) × (slice_index labels (slice_index firsts l) ≡ l)
     first_is = N.first l l_in
 
@@ -132,6 +138,7 @@ module _ (needs : List (List ℕ)) (firsts labels : List ℕ) (placed : List Boo
       bound = each (λ d. (d < length labels) × (slice_index labels d < length needs)) (first_is.0, rw first_is.1 l_in) W.bound;
       own = each (λ d. slice_index firsts (slice_index labels d) ≡ d) (ap (λ y. slice_index firsts y) first_is.1) W.own;
       unplaced = each (λ d. IsOpen placed (slice_index labels d)) (rw first_is.1 l_open) W.unplaced;
-      met = λ d h c. each (λ e. (i : ℕ) → Contains (group_at needs (slice_index labels e)) i → IsPlaced placed i) (rw first_is.1 all_met) (λ e r i. W.met e i r) d c h;
+      met = λ d h c. each (λ e. (i : ℕ) → Contains (group_at needs (slice_index labels e)) i → IsPlaced placed i) (rw first_is.1 all_met) (λ e r i.
+          W.met e i r) d c h;
       others = λ x x_in o. awaited_too x (W.others x x_in o);
     }

@@ -1,5 +1,6 @@
 -- The last step of a search is taken.
-use Rattle.std.proofs.Common.{◌≡◌, ℕ, ◌+◌, ◌-◌, ◌<◌, ◌≤◌, List, [], ◌∷◌, ◌++◌, length, slice_index, get_or, take, Contains, refl, ap, sym, subst, ◌∙◌, ◌⊎◌, inl, inr, arith, length-append}
+use Rattle.std.proofs.Common.{◌≡◌, ℕ, ◌+◌, ◌-◌, ◌<◌, ◌≤◌, List, [], ◌∷◌, ◌++◌, length, slice_index, get_or, take, Contains, refl, ap, sym, subst, ◌∙◌, ◌⊎◌, inl}
+use Rattle.std.proofs.Common.{inr, arith, length-append}
 use Rattle.std.proofs.Math.Seq.{get_or-append_seam}
 use Rattle.std.proofs.lemmas.Bool.{cases_lt}
 use Rattle.std.proofs.lemmas.List.{get_or-take, get_or_append_left, get_or_default, take_more}
@@ -12,7 +13,8 @@ use Rattle.ddl_groups.specs.Reach.{IsWalk, Reaches, Uses}
 use Rattle.ddl_groups.specs.Searching.{AreFollowed, AreFollowedBut, AreSorted, IsBehind, IsFollowed, IsPath, StepsMore, mark_at, unseen}
 use Rattle.ddl_groups.proofs.Fronts.{IsIncreasing, front_long, front_or_last, front_sub}
 
-walk_on : (needs : List (List ℕ)) (a : ℕ) (first : List ℕ) (b : ℕ) (more : List ℕ) (c : ℕ) → IsWalk needs a first b → IsWalk needs b more c → IsWalk needs a (first ++ more) c
+walk_on : (needs : List (List ℕ)) (a : ℕ) (first : List ℕ) (b : ℕ) (more : List ℕ) (c : ℕ) → IsWalk needs a first b → IsWalk needs b more c
+    → IsWalk needs a (first ++ more) c
 walk_on needs a [] b more c e w =
     let P : ℕ → Type 0 = λ x. IsWalk needs x more c in
     subst P (sym e) w
@@ -95,7 +97,8 @@ module _ (needs : List (List ℕ)) (path heads : List ℕ) (steps : List Step) (
     q_is : (q < length path) × (slice_index path q ≡ s.to)
     q_is = P.places s.to q at_q
 
-    joined_step : (p r : ℕ) → p < length path → r < length path → IsBehind after p r → (p < q) ⊎ (q ≤ p) → Reaches needs (slice_index path p) (slice_index path r)
+    joined_step : (p r : ℕ) → p < length path → r < length path → IsBehind after p r → (p < q) ⊎ (q ≤ p)
+        → Reaches needs (slice_index path p) (slice_index path r)
     joined_step p r k l behind (inl before) = P.leads p r k l (λ h c m. behind h (kept h c (omega arith)) m)
     joined_step p r k l behind (inr later) =
         reach_on needs (slice_index path p) (slice_index path q) (slice_index path r)
@@ -121,7 +124,8 @@ module _ (needs : List (List ℕ)) (path heads : List ℕ) (steps : List Step) (
       room = let r : count + length heads + unseen marks ≤ length needs = P.room in omega arith;
     }
 
-    follow : (p b : ℕ) → ((s.from ≡ p) × (s.to ≡ b)) ⊎ IsFollowed heads (take (length steps - 1) steps) marks p b → IsFollowed after (take (length steps - 1) steps) marks p b
+    follow : (p b : ℕ) → ((s.from ≡ p) × (s.to ≡ b)) ⊎ IsFollowed heads (take (length steps - 1) steps) marks p b
+        → IsFollowed after (take (length steps - 1) steps) marks p b
     follow p b (inl e) = inr (inr (q, ap (λ x. mark_at marks x) (sym e.1) ∙ at_q, λ h c m. (sub h c).1))
     follow p b (inr (inl t)) = inl t
     follow p b (inr (inr (inl c))) = inr (inl c)
@@ -131,7 +135,8 @@ module _ (needs : List (List ℕ)) (path heads : List ℕ) (steps : List Step) (
     joined_followed p b l u = follow p b (this_or p b (F p b l u))
 
 -- one more step is added
-module _ (before : List Step) (from : ℕ) (used : List ℕ) (steps : List Step) (i : ℕ) (i_in : i < length used) (M : StepsMore before from (take i used) steps) (s : Step)
+module _ (before : List Step) (from : ℕ) (used : List ℕ) (steps : List Step) (i : ℕ) (i_in : i < length used) (M : StepsMore before from (take i used) steps)
+    (s : Step)
     (s_from : s.from ≡ from) (s_to : s.to ≡ slice_index used i) where
   later : (t : Step) → Contains steps t ⊎ (s ≡ t) → t.from ≤ from
   later t (inl c) = M.later t c
@@ -149,7 +154,8 @@ module _ (before : List Step) (from : ℕ) (used : List ℕ) (steps : List Step)
           let f : length steps ≡ k = omega arith in
           let g : get_or (steps ++ s ∷ []) k d ≡ s = subst (λ x. get_or (steps ++ s ∷ []) x d ≡ s) f (get_or-append_seam steps s [] d) in
           let h : (get_or (steps ++ s ∷ []) j d).from ≤ from =
-          later (get_or (steps ++ s ∷ []) j d) (Contains-push_cases steps s (get_or (steps ++ s ∷ []) j d) (Contains-get_or (steps ++ s ∷ []) j d (omega arith))) in
+          later (get_or (steps ++ s ∷ []) j d) (Contains-push_cases steps s (get_or (steps ++ s ∷ []) j d)
+          (Contains-get_or (steps ++ s ∷ []) j d (omega arith))) in
           rw g (omega arith)
 
   to_more : (b : ℕ) → Contains (take i used) b → Contains (take (i + 1) used) b

@@ -29,5 +29,9 @@ needs_of ds us = map (needs_in (length ds)) (cut_at us (firsts_of ds))
 -- ---- worked
 
 -- a use of a declaration beyond so many, of a parameter or of a built-in name is no need
-three_uses : (s : Span) → needs_in 3 (record { span = s; bound = bound.Decl 2 } ∷ record { span = s; bound = bound.Local s } ∷ record { span = s; bound = bound.Decl 3 } ∷ []) ≡ 2 ∷ []
+three_uses : (s : Span) → needs_in 3 (record { span = s; bound = bound.Decl 2 } ∷ record { span = s; bound = bound.Local s } ∷ record {
+  span = s;
+  bound =
+      bound.Decl 3;
+} ∷ []) ≡ 2 ∷ []
 three_uses s = refl

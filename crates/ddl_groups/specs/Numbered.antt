@@ -19,12 +19,15 @@ pub record AreMembers (labels : List ℕ) (below : ℕ) (members : List (List �
 
 -- the lists have the labels that declarations below a number use, by the label of the declaration and apart from it
 pub record AreGroupNeeds (needs : List (List ℕ)) (labels : List ℕ) (below : ℕ) (lists : List (List ℕ)) : Type 0 where
-  pub has : (a b : ℕ) → a < below → Uses needs a b → slice_index labels b ≢ slice_index labels a → Contains (group_at lists (slice_index labels a)) (slice_index labels b)
-  pub only : (l h : ℕ) → Contains (group_at lists l) h → (h ≢ l) × ((a : ℕ) × (b : ℕ) × Uses needs a b × (slice_index labels a ≡ l) × (slice_index labels b ≡ h))
+  pub has : (a b : ℕ) → a < below → Uses needs a b → slice_index labels b ≢ slice_index labels a
+      → Contains (group_at lists (slice_index labels a)) (slice_index labels b)
+  pub only : (l h : ℕ) → Contains (group_at lists l) h → (h ≢ l)
+      × ((a : ℕ) × (b : ℕ) × Uses needs a b × (slice_index labels a ≡ l) × (slice_index labels b ≡ h))
 
 -- the list at a label has, beside what it had, the labels apart from it that these declarations have
 pub record AreNeedsMore (before : List (List ℕ)) (label : ℕ) (used labels : List ℕ) (lists : List (List ℕ)) : Type 0 where
   pub long : length lists ≡ length before
   pub kept : (l h : ℕ) → Contains (group_at before l) h → Contains (group_at lists l) h
   pub has : (b : ℕ) → Contains used b → slice_index labels b ≢ label → Contains (group_at lists label) (slice_index labels b)
-  pub only : (l h : ℕ) → Contains (group_at lists l) h → Contains (group_at before l) h ⊎ ((l ≡ label) × (h ≢ label) × ((b : ℕ) × Contains used b × (slice_index labels b ≡ h)))
+  pub only : (l h : ℕ) → Contains (group_at lists l) h → Contains (group_at before l) h
+      ⊎ ((l ≡ label) × (h ≢ label) × ((b : ℕ) × Contains used b × (slice_index labels b ≡ h)))

@@ -38,7 +38,8 @@ pub record AreUsers (needs users : List (List ℕ)) : Type 0 where
 -- the group is ready, has an open need, or is still in hand
 abbrev pub IsAwaited : List (List ℕ) → List ℕ → List Bool → List ℕ → List ℕ → ℕ → ℕ → Type 0
 IsAwaited needs firsts placed ready hand from l =
-    Contains ready (slice_index firsts l) ⊎ (((h : ℕ) × Contains (group_at needs l) h × IsOpen placed h) ⊎ ((k : ℕ) × (from ≤ k) × (k < length hand) × (slice_index hand k ≡ l)))
+    Contains ready (slice_index firsts l) ⊎ (((h : ℕ) × Contains (group_at needs l) h × IsOpen placed h)
+    ⊎ ((k : ℕ) × (from ≤ k) × (k < length hand) × (slice_index hand k ≡ l)))
 
 -- What is known while the groups in hand, from a place on, are still to be looked at: of the needs of a group those from a
 -- place on are placed, `ready` has the first members of groups that may be placed, and
@@ -64,10 +65,12 @@ pub record IsPlacing (needs : List (List ℕ)) (firsts : List ℕ) (placed : Lis
   pub known : (k : ℕ) → k < length order → slice_index order k < length needs
   pub once : (j k : ℕ) → j < length order → k < length order → slice_index order j ≡ slice_index order k → j ≡ k
   pub ready : (k : ℕ) → k < length order → HasBefore needs order k (slice_index order k)
-  pub least : (j k : ℕ) → j < k → k < length order → HasBefore needs order j (slice_index order k) → slice_index firsts (slice_index order j) < slice_index firsts (slice_index order k)
+  pub least : (j k : ℕ) → j < k → k < length order → HasBefore needs order j (slice_index order k)
+      → slice_index firsts (slice_index order j) < slice_index firsts (slice_index order k)
   pub standing : (l : ℕ) → IsPlaced placed l → Contains order l
   pub stood : (l : ℕ) → Contains order l → IsPlaced placed l
-  pub later : (j l : ℕ) → j < length order → l < length needs → IsOpen placed l → HasBefore needs order j l → slice_index firsts (slice_index order j) < slice_index firsts l
+  pub later : (j l : ℕ) → j < length order → l < length needs → IsOpen placed l → HasBefore needs order j l
+      → slice_index firsts (slice_index order j) < slice_index firsts l
 
 -- The order of the groups: each stands once, after its needs, and of those that might stand at a place the one of the least
 -- first member does.
@@ -76,4 +79,5 @@ pub record IsOrder (needs : List (List ℕ)) (firsts order : List ℕ) : Type 0 
   pub known : (k : ℕ) → k < length order → slice_index order k < length needs
   pub once : (j k : ℕ) → j < length order → k < length order → slice_index order j ≡ slice_index order k → j ≡ k
   pub ready : (k : ℕ) → k < length order → HasBefore needs order k (slice_index order k)
-  pub least : (j k : ℕ) → j < k → k < length order → HasBefore needs order j (slice_index order k) → slice_index firsts (slice_index order j) < slice_index firsts (slice_index order k)
+  pub least : (j k : ℕ) → j < k → k < length order → HasBefore needs order j (slice_index order k)
+      → slice_index firsts (slice_index order j) < slice_index firsts (slice_index order k)

@@ -57,7 +57,8 @@ pub record IsPath (needs : List (List ℕ)) (path heads : List ℕ) (steps : Lis
 
 -- the use by the declaration at p of b is a step still to be taken, or leads to what is closed or not before the group of p
 abbrev pub IsFollowed : List ℕ → List Step → List Mark → ℕ → ℕ → Type 0
-IsFollowed heads steps marks p b = ((s : Step) × Contains steps s × (s.from ≡ p) × (s.to ≡ b)) ⊎ ((mark_at marks b ≡ Closed) ⊎ ((q : ℕ) × (mark_at marks b ≡ Open q) × IsBehind heads p q))
+IsFollowed heads steps marks p b = ((s : Step) × Contains steps s × (s.from ≡ p) × (s.to ≡ b))
+    ⊎ ((mark_at marks b ≡ Closed) ⊎ ((q : ℕ) × (mark_at marks b ≡ Open q) × IsBehind heads p q))
 
 -- each use by what stands on the path is followed
 abbrev pub AreFollowed : List (List ℕ) → List ℕ → List ℕ → List Step → List Mark → Type 0

@@ -12,10 +12,14 @@ use crate::marks::{Mark, Search};
 fn close_all(path: &[u32], head: usize, label: u32, marks: &mut Vec<Mark>, labels: &mut Vec<u32>)
     requires within { head ≤ length path.now }
     requires known { All (λ v. (v < length marks.old.items) × (v < length labels.old.items)) path.now }
-    ensures long { (length marks.new.items ≡ length marks.old.items) × (length labels.new.items ≡ length labels.old.items) }
-    ensures closed { (p : ℕ) → head ≤ p → p < length path.now → (mark_at marks.new.items (slice_index path.now p) ≡ Closed) × (slice_index labels.new.items (slice_index path.now p) ≡ label) }
+    ensures long { (length marks.new.items ≡ length marks.old.items)
+        × (length labels.new.items ≡ length labels.old.items) }
+    ensures closed { (p : ℕ) → head ≤ p → p < length path.now
+        → (mark_at marks.new.items (slice_index path.now p) ≡ Closed)
+        × (slice_index labels.new.items (slice_index path.now p) ≡ label) }
     ensures others { (v : ℕ) → ((p : ℕ) → head ≤ p → p < length path.now → slice_index path.now p ≢ v)
-        → (mark_at marks.new.items v ≡ mark_at marks.old.items v) × (slice_index labels.new.items v ≡ slice_index labels.old.items v) }
+        → (mark_at marks.new.items v ≡ mark_at marks.old.items v)
+        × (slice_index labels.new.items v ≡ slice_index labels.old.items v) }
     ensures fewer { unseen marks.new.items ≤ unseen marks.old.items }
 {
     for place in head..path.len() {
@@ -29,7 +33,8 @@ fn close_all(path: &[u32], head: usize, label: u32, marks: &mut Vec<Mark>, label
 fn close_last(search: &mut Search, _needs: &[Vec<u32>], head: usize)
     requires few { length _needs.now < 2 ^ 32 - 1 }
     requires holds { Holds (lists_of _needs.now) search.old }
-    requires last { (0 < length search.old.heads.items) × (slice_index search.old.heads.items (length search.old.heads.items - 1) ≡ head) }
+    requires last { (0 < length search.old.heads.items)
+        × (slice_index search.old.heads.items (length search.old.heads.items - 1) ≡ head) }
     requires before { (s : Step) → Contains search.old.pending.items s → s.from < head }
     ensures holds { Holds (lists_of _needs.now) search.new }
     ensures pending { search.new.pending.items ≡ search.old.pending.items }

@@ -17,7 +17,8 @@ pub(crate) fn members(
 ) -> Result<Vec<Vec<u32>>, NoMemory>
     requires few { length labels.now < 2 ^ 32 }
     requires known { All (λ l. l < count) labels.now }
-    ensures { IfOk result (λ lists. (length lists.items ≡ count) × AreMembers labels.now (length labels.now) (lists_of lists.items)) }
+    ensures { IfOk result (λ lists. (length lists.items ≡ count)
+        × AreMembers labels.now (length labels.now) (lists_of lists.items)) }
 {
     let mut lists = empty_lists(alloc, count)?;
     for declaration in 0..labels.len() as u32 {
@@ -48,7 +49,8 @@ pub(crate) fn in_order(
 ) -> Result<Vec<Vec<u32>>, NoMemory>
     requires { All (λ l. l < length members.now) order.now }
     ensures { IfOk result (λ groups. (length groups.items ≡ length order.now)
-        × ((k : ℕ) → k < length order.now → group_at (lists_of groups.items) k ≡ group_at (lists_of members.now) (slice_index order.now k))) }
+        × ((k : ℕ) → k < length order.now → group_at (lists_of groups.items) k
+        ≡ group_at (lists_of members.now) (slice_index order.now k))) }
 {
     let mut groups = Vec::new(alloc);
     for group in order {

@@ -13,7 +13,8 @@ use std::alloc::Global;
 
 /// The groups of the declarations of modules whose names are bound; a use stands in types too.
 pub fn groups(alloc: Global, resolved: &Resolved) -> Result<Groups, NoMemory>
-    ensures { IfOk result (λ groups. AreGroups (needs_of resolved.now.decls.items resolved.now.uses.items) (lists_of groups.lists.items)) }
+    ensures { IfOk result (λ groups. AreGroups (needs_of resolved.now.decls.items resolved.now.uses.items)
+        (lists_of groups.lists.items)) }
 {
     let needs = needs_of(alloc, &resolved.decls, &resolved.uses)?;
     if needs.len() >= u32::MAX as usize {

@@ -59,7 +59,8 @@ fn explore(search: &mut Search, needs: &[Vec<u32>], root: u32) -> Result<(), NoM
     requires within { root < length needs.now }
     requires new { mark_at search.old.marks.items root ≡ Unseen }
     ensures idle { OnOk result (IsIdle (lists_of needs.now) search.new) }
-    ensures seen { OnOk result ((v : ℕ) → mark_at search.old.marks.items v ≢ Unseen → mark_at search.new.marks.items v ≢ Unseen) }
+    ensures seen { OnOk result ((v : ℕ) → mark_at search.old.marks.items v ≢ Unseen
+        → mark_at search.new.marks.items v ≢ Unseen) }
     ensures root_seen { OnOk result (mark_at search.new.marks.items root ≢ Unseen) }
 {
     open(search, needs, root)?;

@@ -38,8 +38,10 @@ pub(crate) fn settle(
     requires graph { IsNumbered (lists_of needs.now) firsts.now labels.now }
     requires marks { length placed.now ≡ length needs.now }
     requires in_hand { All (λ l. (l < length needs.now) × IsOpen placed.now l) hand.now }
-    requires waiting { IsWaiting (lists_of needs.now) firsts.now labels.now placed.now left.old.items ready.old.keys hand.now 0 }
-    ensures { OnOk result (IsWaiting (lists_of needs.now) firsts.now labels.now placed.now left.new.items ready.new.keys [] 0) }
+    requires waiting { IsWaiting (lists_of needs.now) firsts.now labels.now placed.now left.old.items ready.old.keys
+        hand.now 0 }
+    ensures { OnOk result (IsWaiting (lists_of needs.now) firsts.now labels.now placed.now left.new.items ready.new.keys
+        [] 0) }
 {
     for group in hand {
         let group = *group as usize;

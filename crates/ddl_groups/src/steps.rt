@@ -31,7 +31,8 @@ fn take_step(search: &mut Search, needs: &[Vec<u32>]) -> Option<u32>
     requires declared { AreDeclared (lists_of needs.now) }
     requires holds { Holds (lists_of needs.now) search.old }
     requires some { 0 < length search.old.pending.items }
-    ensures step { MatchOption result (Holds (lists_of needs.now) search.new) (λ w. ComesTo (lists_of needs.now) search.new w) }
+    ensures step { MatchOption result (Holds (lists_of needs.now) search.new) (λ w.
+        ComesTo (lists_of needs.now) search.new w) }
     ensures seen { KeepsSeen search.old.marks.items search.new.marks.items }
     ensures fewer { length search.new.pending.items < length search.old.pending.items }
 {
@@ -53,7 +54,8 @@ pub(crate) fn next_unseen(search: &mut Search, needs: &[Vec<u32>]) -> Option<u32
     requires few { length needs.now < 2 ^ 32 - 1 }
     requires declared { AreDeclared (lists_of needs.now) }
     requires holds { Holds (lists_of needs.now) search.old }
-    ensures next { MatchOption result (Holds (lists_of needs.now) search.new × (length search.new.pending.items ≡ 0)) (λ w. ComesTo (lists_of needs.now) search.new w) }
+    ensures next { MatchOption result (Holds (lists_of needs.now) search.new × (length search.new.pending.items ≡ 0))
+        (λ w. ComesTo (lists_of needs.now) search.new w) }
     ensures seen { KeepsSeen search.old.marks.items search.new.marks.items }
 {
     while !search.pending.is_empty() {

@@ -23,7 +23,8 @@ fn add_uses(uses: &mut GroupUses, label: u32, used: &[u32], labels: &[u32]) -> R
     requires labelled { All (λ l. l < length uses.old.needs.items) labels.now }
     requires users { AreUsers (lists_of uses.old.needs.items) (lists_of uses.old.users.items) }
     ensures users { OnOk result (AreUsers (lists_of uses.new.needs.items) (lists_of uses.new.users.items)) }
-    ensures needs { OnOk result (AreNeedsMore (lists_of uses.old.needs.items) label used.now labels.now (lists_of uses.new.needs.items)) }
+    ensures needs { OnOk result (AreNeedsMore (lists_of uses.old.needs.items) label used.now labels.now
+        (lists_of uses.new.needs.items)) }
 {
     for declaration in used {
         let other = labels[*declaration as usize];
@@ -47,7 +48,8 @@ pub(crate) fn group_uses(
     requires labelled { All (λ l. l < count) labels.now }
     ensures long { IfOk result (λ uses. length uses.needs.items ≡ count) }
     ensures users { IfOk result (λ uses. AreUsers (lists_of uses.needs.items) (lists_of uses.users.items)) }
-    ensures needs { IfOk result (λ uses. AreGroupNeeds (lists_of needs.now) labels.now (length needs.now) (lists_of uses.needs.items)) }
+    ensures needs { IfOk result (λ uses. AreGroupNeeds (lists_of needs.now) labels.now (length needs.now)
+        (lists_of uses.needs.items)) }
 {
     let group_needs = empty_lists(alloc, count)?;
     let users = empty_lists(alloc, count)?;

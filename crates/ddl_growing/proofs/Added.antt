@@ -35,7 +35,8 @@ stopped_first es ds s a b (e.Wrong x why) h = stopped_before es ds s a b (e.Wron
 stopped_first es ds s a b (e.Unresolved x) h = stopped_before es ds s a b (e.Unresolved x) h
 
 -- the first list is added, and the second is stopped
-stopped_behind : (es ds : List Equation) (n : ℕ) (s : Span) (a b c : Solved) (err : SettleError) → HasAdded es n a b → IsStopped ds s b c err → IsStopped (es ++ ds) s a c err
+stopped_behind : (es ds : List Equation) (n : ℕ) (s : Span) (a b c : Solved) (err : SettleError) → HasAdded es n a b → IsStopped ds s b c err
+    → IsStopped (es ++ ds) s a c err
 stopped_behind es ds n s a b c err k h = record {
   before = es ++ h.before;
   after = h.after;
@@ -45,7 +46,8 @@ stopped_behind es ds n s a b c err k h = record {
   refusal = h.refusal;
 }
 
-pub stopped_then : (es ds : List Equation) (n : ℕ) (s : Span) (a b c : Solved) (err : SettleError) → HasAdded es n a b → AreStopped ds s b c err → AreStopped (es ++ ds) s a c err
+pub stopped_then : (es ds : List Equation) (n : ℕ) (s : Span) (a b c : Solved) (err : SettleError) → HasAdded es n a b → AreStopped ds s b c err
+    → AreStopped (es ++ ds) s a c err
 stopped_then es ds n s a b c e.NoMemory k h = tt
 stopped_then es ds n s a b c (e.Clash x l r) k h = stopped_behind es ds n s a b c (e.Clash x l r) k h
 stopped_then es ds n s a b c (e.Endless x v t) k h = stopped_behind es ds n s a b c (e.Endless x v t) k h
@@ -71,7 +73,8 @@ cons_none : (e : Equation) (ds : List Equation) → e ∷ ds ≡ [] → ⊥
 cons_none e ds q = cc
 
 -- the first equation is refused, and its error is passed on
-pub refused_first : (e : Equation) (ds : List Equation) (s : Span) (a b : Solved) (r : Result Turn SettleError) (err : SettleError) → IsErrAnd r (λ x. x ≡ err) → AreStopped (e ∷ []) s a b err → Carries (given (e ∷ ds) 0) s a b r
+pub refused_first : (e : Equation) (ds : List Equation) (s : Span) (a b : Solved) (r : Result Turn SettleError) (err : SettleError) → IsErrAnd r (λ x. x ≡ err)
+    → AreStopped (e ∷ []) s a b err → Carries (given (e ∷ ds) 0) s a b r
 refused_first e ds s a b (Ok x) err h k = absurd h
 refused_first e ds s a b (Err x) err h k = subst (AreStopped (e ∷ ds) s a b) (sym h) (stopped_first (e ∷ []) ds s a b err k)
 
@@ -82,7 +85,8 @@ carried_added e ds n a b turn.Silent i = absurd (cons_none e ds i.0.0)
 carried_added e ds n a b turn.Adds i = i
 
 -- some are added, and then others are, or are stopped
-pub carried_then : (e : Equation) (es ds : List Equation) (m n k : ℕ) (s : Span) (a b c : Solved) (r : Result Turn SettleError) → k ≡ m + n → HasAdded es m a b → Carries (given (e ∷ ds) n) s b c r → Carries (given (es ++ e ∷ ds) k) s a c r
+pub carried_then : (e : Equation) (es ds : List Equation) (m n k : ℕ) (s : Span) (a b c : Solved) (r : Result Turn SettleError) → k ≡ m + n → HasAdded es m a b
+    → Carries (given (e ∷ ds) n) s b c r → Carries (given (es ++ e ∷ ds) k) s a c r
 carried_then e es ds m n k s a b c (Ok turn.Waits) q h g = absurd g
 carried_then e es ds m n k s a b c (Ok turn.Silent) q h g = absurd (cons_none e ds g.0.0)
 carried_then e es ds m n k s a b c (Ok turn.Adds) q h g = subst (λ z. HasAdded (es ++ e ∷ ds) z a c) (sym q) (added_then es (e ∷ ds) m n a b c h g)

@@ -51,7 +51,8 @@ at_listed u k n b h = on_agreed u k (arguments (listed k n)) (at k n) b (λ i l.
 
 pub lower_at : (u : Ty) (k n : ℕ) → Below u k → k ≢ 0 → Below (on u (at k n)) (n + k)
 lower_at u k n b h =
-    on_lower u k (n + k) (at k n) b (λ i l. let P : Ty → Type 0 = λ z. Below z (n + k) in subst P (sym (at_some k n i h)) (let q : n + i < n + k = omega (arith, l) in q))
+    on_lower u k (n + k) (at k n) b (λ i l. let P : Ty → Type 0 =
+    λ z. Below z (n + k) in subst P (sym (at_some k n i h)) (let q : n + i < n + k = omega (arith, l) in q))
 
 pub fresh_lower : (k n m : ℕ) → n + k ≤ m → BelowAll (fresh k n) m
 fresh_lower zero n m h = tt

@@ -1,6 +1,7 @@
 -- Heads that are known.
 use Rattle.std.proofs.Common.{◌≡◌, ℕ, List, [], ◌∷◌, Option, Some, None, refl, sym, ap, ◌∙◌, true}
-use Rattle.ddl_types.specs.Types.{Ty, Ty.var, Ty.con, Sub, on, Head, Head.int, Head.uint, Head.sint, Head.bool, Head.unit, Head.stream, Head.maybe_of, Head.array_of, Head.map_of, Head.bits, Head.place}
+use Rattle.ddl_types.specs.Types.{Ty, Ty.var, Ty.con, Sub, on, Head, Head.int, Head.uint, Head.sint, Head.bool, Head.unit, Head.stream, Head.maybe_of}
+use Rattle.ddl_types.specs.Types.{Head.array_of, Head.map_of, Head.bits, Head.place}
 use Rattle.ddl_unify.specs.State.{IsFree}
 use Rattle.ddl_growing.specs.declared.heads.Known.TheVariants as known
 use Rattle.ddl_growing.specs.declared.heads.Known.{Known}
@@ -34,7 +35,9 @@ others P (Some (bits n)) e a b c d f g = cc
 others P (Some (place p)) e a b c d f g = cc
 
 -- what holds of each head that is known, where some are ruled out
-pub known_at : (P : Head → Type 0) (k : Known) (o : Option Head) → IsKnown k o → (k ≡ known.Unknown → ⊥) → (k ≡ known.Array → P array_of) → (k ≡ known.Map → P map_of) → ((w : ℕ) → k ≡ known.Uint w → P (uint w)) → ((b : ℕ) → k ≡ known.Bits b → P (bits b)) → ((p : ℕ) → k ≡ known.Place p → P (place p)) → P int → ((w : ℕ) → P (sint w)) → P bool → P unit → P stream → P maybe_of → AtHead o P
+pub known_at : (P : Head → Type 0) (k : Known) (o : Option Head) → IsKnown k o → (k ≡ known.Unknown → ⊥) → (k ≡ known.Array → P array_of)
+    → (k ≡ known.Map → P map_of) → ((w : ℕ) → k ≡ known.Uint w → P (uint w)) → ((b : ℕ) → k ≡ known.Bits b → P (bits b))
+    → ((p : ℕ) → k ≡ known.Place p → P (place p)) → P int → ((w : ℕ) → P (sint w)) → P bool → P unit → P stream → P maybe_of → AtHead o P
 known_at P known.Unknown o i u ar mp ui bi pl a b c d f g = absurd (u refl)
 known_at P known.Array o i u ar mp ui bi pl a b c d f g = (array_of, i, ar refl)
 known_at P known.Map o i u ar mp ui bi pl a b c d f g = (map_of, i, mp refl)

@@ -14,7 +14,8 @@ listed_more zero n m e = ap (λ v. var v ∷ []) (let q : m ≡ n = omega (arith
 listed_more (suc k) n m e = ap (λ z. var n ∷ z) (listed_more k (suc n) m (omega (arith, e)))
 
 -- one more is listed
-pub listed_next : (xs : List program.Ty) (x : program.Ty) (n m : ℕ) → map ty_view xs ≡ listed (length xs) n → ty_view x ≡ var m → m ≡ n + length xs → map ty_view (xs ++ x ∷ []) ≡ listed (suc (length xs)) n
+pub listed_next : (xs : List program.Ty) (x : program.Ty) (n m : ℕ) → map ty_view xs ≡ listed (length xs) n → ty_view x ≡ var m → m ≡ n + length xs
+    → map ty_view (xs ++ x ∷ []) ≡ listed (suc (length xs)) n
 listed_next xs x n m e q h = map-append ty_view xs (x ∷ []) ∙ ap (λ z. map ty_view xs ++ z ∷ []) q ∙ ap (λ z. z ++ var m ∷ []) e ∙ listed_more (length xs) n m h
 
 pub listed_fresh : (k n : ℕ) → tys_of (listed k n) ≡ fresh k n
@@ -27,7 +28,8 @@ pub record Taken (a c : Solved) (n : ℕ) (before after : List program.Ty) : Typ
   pub long : length after ≡ suc (length before)
   pub added : HasAdded [] (length after) a c
 
-pub one_more : (xs ys : List program.Ty) (x : program.Ty) (n v : ℕ) (a b c : Solved) → ys ≡ xs ++ x ∷ [] → ty_view x ≡ var v → v ≡ b.variables → n ≡ a.variables → map ty_view xs ≡ listed (length xs) n → HasAdded [] (length xs) a b → HasAdded [] 1 b c → Taken a c n xs ys
+pub one_more : (xs ys : List program.Ty) (x : program.Ty) (n v : ℕ) (a b c : Solved) → ys ≡ xs ++ x ∷ [] → ty_view x ≡ var v → v ≡ b.variables → n ≡ a.variables
+    → map ty_view xs ≡ listed (length xs) n → HasAdded [] (length xs) a b → HasAdded [] 1 b c → Taken a c n xs ys
 one_more xs ys x n v a b c e q w z h k l =
     let long : length ys ≡ suc (length xs) = ap length e ∙ length-append xs (x ∷ []) ∙ (let o : length xs + 1 ≡ suc (length xs) = omega arith in o) in
     let m : v ≡ n + length xs = omega (arith, w, z, k.variables) in

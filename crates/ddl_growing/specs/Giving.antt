@@ -1,6 +1,7 @@
 -- The equations that a demand adds once the heads of its subjects are known.
 use Rattle.std.specs.Prelude.{ℕ, zero, suc, ◌+◌, List, [], ◌∷◌, ◌++◌, nat_le, if◌then◌else◌, Bool, true, false, Option, Some, None}
-use Rattle.ddl_types.specs.Types.{Ty, Ty.var, Ty.con, Tys, Tys.none, Tys.more, Sub, on, Head, Head.int, Head.uint, Head.array_of, Head.map_of, Head.bits, Head.place}
+use Rattle.ddl_types.specs.Types.{Ty, Ty.var, Ty.con, Tys, Tys.none, Tys.more, Sub, on, Head, Head.int, Head.uint, Head.array_of, Head.map_of, Head.bits}
+use Rattle.ddl_types.specs.Types.{Head.place}
 use Rattle.ddl_types.specs.Conditions.{key, cat, field, tag, loops}
 use Rattle.ddl_unify.specs.Equations.{Equation, equal}
 use Rattle.ddl_judging.specs.Demands.{Demand, condition, make, gather}
@@ -36,7 +37,11 @@ of_bits (Some u) r = record { equations = equal u r ∷ []; vars = 0 }
 -- the key and the value of each turn: the position and the element of an array, the key and the value of a map
 abbrev pub turns : Head → Ty → Ty → Ty → ℕ → Given
 turns array_of t k v n = record { equations = equal (con array_of (more (var n) none)) t ∷ equal (con (uint 64) none) k ∷ equal (var n) v ∷ []; vars = 1 }
-turns map_of t k v n = record { equations = equal (con map_of (more (var n) (more (var (suc n)) none))) t ∷ equal (var n) k ∷ equal (var (suc n)) v ∷ []; vars = 2 }
+turns map_of t k v n = record {
+  equations = equal (con map_of (more (var n) (more (var (suc n)) none))) t ∷ equal (var n) k ∷ equal (var (suc n)) v ∷ [];
+  vars =
+      2;
+}
 turns h t k v n = nothing
 
 -- what a `map` makes: an array of its bodies, or a map from the same keys
@@ -50,7 +55,10 @@ joined m n r = if nat_le (m + n) 128 then record { equations = equal (con (uint 
 
 -- what a demand adds at these heads, the next variable being the n-th
 abbrev pub gives : Shapes → Demand → List Head → ℕ → Given
-gives ss (condition (key t)) (array_of ∷ []) n = record { equations = equal (con array_of (more (var n) none)) t ∷ equal (con (uint 8) none) (var n) ∷ []; vars = 1 }
+gives ss (condition (key t)) (array_of ∷ []) n = record {
+  equations = equal (con array_of (more (var n) none)) t ∷ equal (con (uint 8) none) (var n) ∷ [];
+  vars = 1;
+}
 gives ss (condition (cat a b r)) (uint m ∷ uint k ∷ []) n = joined m k r
 gives ss (condition (field t x r)) (place p ∷ []) n = of_place (place_at ss.places p) false p t x r n
 gives ss (condition (field t x r)) (bits b ∷ []) n = of_bits (found false x (bits_at ss.bitdata b).shape) r

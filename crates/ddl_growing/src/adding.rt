@@ -1,7 +1,8 @@
 //! Equations and variables that a demand adds.
 
 ghost use Rattle.std.specs.Prelude.{◌≡◌, ◌∷◌, [], IfOk, length, map};
-ghost use Rattle.ddl_types.specs.Types.{Below, Ty.con, Tys.more, Tys.none, Head.array_of, Head.map_of, Head.place, tys_of};
+ghost use Rattle.ddl_types.specs.Types.{Below, Ty.con, Tys.more, Tys.none, Head.array_of, Head.map_of, Head.place};
+ghost use Rattle.ddl_types.specs.Types.{tys_of};
 ghost use Rattle.ddl_types.specs.TyView.{ty_view};
 ghost use Rattle.ddl_unify.specs.Equations.{EachBelow, MostGeneral};
 ghost use Rattle.ddl_unify.specs.State.{accepted, solution, variables};
@@ -106,7 +107,8 @@ pub(crate) fn add_two(
 ) -> Result<Turn, SettleError>
     requires below { EachBelow (sides_view first ∷ sides_view second ∷ []) (variables solver.old) }
     ensures most { MostGeneral (accepted solver.new) (solution solver.new) }
-    ensures added { Carries (given (sides_view first.entry ∷ sides_view second.entry ∷ []) 0) span (solved solver.old) (solved solver.new) result }
+    ensures added { Carries (given (sides_view first.entry ∷ sides_view second.entry ∷ []) 0) span (solved solver.old)
+        (solved solver.new) result }
 {
     add(solver, span, first)?;
     add(solver, span, second)
@@ -122,7 +124,8 @@ pub(crate) fn add_three(
 ) -> Result<Turn, SettleError>
     requires below { EachBelow (sides_view first ∷ sides_view second ∷ sides_view third ∷ []) (variables solver.old) }
     ensures most { MostGeneral (accepted solver.new) (solution solver.new) }
-    ensures added { Carries (given (sides_view first.entry ∷ sides_view second.entry ∷ sides_view third.entry ∷ []) 0) span (solved solver.old) (solved solver.new) result }
+    ensures added { Carries (given (sides_view first.entry ∷ sides_view second.entry ∷ sides_view third.entry ∷ []) 0)
+        span (solved solver.old) (solved solver.new) result }
 {
     add(solver, span, first)?;
     add_two(solver, span, second, third)
@@ -137,9 +140,11 @@ pub(crate) fn add_four(
     third: Sides<'_>,
     fourth: Sides<'_>,
 ) -> Result<Turn, SettleError>
-    requires below { EachBelow (sides_view first ∷ sides_view second ∷ sides_view third ∷ sides_view fourth ∷ []) (variables solver.old) }
+    requires below { EachBelow (sides_view first ∷ sides_view second ∷ sides_view third ∷ sides_view fourth ∷ [])
+        (variables solver.old) }
     ensures most { MostGeneral (accepted solver.new) (solution solver.new) }
-    ensures added { Carries (given (sides_view first.entry ∷ sides_view second.entry ∷ sides_view third.entry ∷ sides_view fourth.entry ∷ []) 0) span (solved solver.old) (solved solver.new) result }
+    ensures added { Carries (given (sides_view first.entry ∷ sides_view second.entry ∷ sides_view third.entry
+        ∷ sides_view fourth.entry ∷ []) 0) span (solved solver.old) (solved solver.new) result }
 {
     add(solver, span, first)?;
     add_three(solver, span, second, third, fourth)

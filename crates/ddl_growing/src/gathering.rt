@@ -34,7 +34,9 @@ pub(crate) fn take_gather(
     requires body_below { Below (ty_view body.now) (variables solver.old) }
     requires whole_below { Below (ty_view whole.now) (variables solver.old) }
     ensures most { MostGeneral (accepted solver.new) (solution solver.new) }
-    ensures taken { (ss : Shapes) → IsTaken ss (asking (gather (ty_view form.entry.over.now) (ty_view form.entry.key.now) (ty_view form.entry.value.now) (ty_view body.now) (ty_view whole.now)) span) (solved solver.old) (solved solver.new) result }
+    ensures taken { (ss : Shapes) → IsTaken ss
+        (asking (gather (ty_view form.entry.over.now) (ty_view form.entry.key.now) (ty_view form.entry.value.now)
+        (ty_view body.now) (ty_view whole.now)) span) (solved solver.old) (solved solver.new) result }
 {
     match known_head(solver, form.over) {
         Known::Unknown => Ok(Turn::Waits),
@@ -61,7 +63,9 @@ fn gather_array(
     requires body_below { Below (ty_view body.now) (variables solver.old) }
     requires whole_below { Below (ty_view whole.now) (variables solver.old) }
     ensures most { MostGeneral (accepted solver.new) (solution solver.new) }
-    ensures added { Carries (gathering array_of (ty_view form.entry.over.now) (ty_view form.entry.key.now) (ty_view form.entry.value.now) (ty_view body.now) (ty_view whole.now) (variables solver.old)) span (solved solver.old) (solved solver.new) result }
+    ensures added { Carries (gathering array_of (ty_view form.entry.over.now) (ty_view form.entry.key.now)
+        (ty_view form.entry.value.now) (ty_view body.now) (ty_view whole.now) (variables solver.old)) span
+        (solved solver.old) (solved solver.new) result }
 {
     let variable = fresh_variable(solver)?;
     let element = Ty::Var(variable);
@@ -104,7 +108,9 @@ fn gather_map(
     requires body_below { Below (ty_view body.now) (variables solver.old) }
     requires whole_below { Below (ty_view whole.now) (variables solver.old) }
     ensures most { MostGeneral (accepted solver.new) (solution solver.new) }
-    ensures added { Carries (gathering map_of (ty_view form.entry.over.now) (ty_view form.entry.key.now) (ty_view form.entry.value.now) (ty_view body.now) (ty_view whole.now) (variables solver.old)) span (solved solver.old) (solved solver.new) result }
+    ensures added { Carries (gathering map_of (ty_view form.entry.over.now) (ty_view form.entry.key.now)
+        (ty_view form.entry.value.now) (ty_view body.now) (ty_view whole.now) (variables solver.old)) span
+        (solved solver.old) (solved solver.new) result }
 {
     let of_key = fresh_variable(solver)?;
     let of_value = fresh_variable(solver)?;

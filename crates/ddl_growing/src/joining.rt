@@ -32,7 +32,9 @@ pub(crate) fn take_join(
 ) -> Result<Turn, SettleError>
     requires below { Below (ty_view whole.now) (variables solver.old) }
     ensures most { MostGeneral (accepted solver.new) (solution solver.new) }
-    ensures taken { (ss : Shapes) → IsTaken ss (asking (condition (cat (ty_view left.now) (ty_view right.now) (ty_view whole.now))) span) (solved solver.old) (solved solver.new) result }
+    ensures taken { (ss : Shapes) → IsTaken ss
+        (asking (condition (cat (ty_view left.now) (ty_view right.now) (ty_view whole.now))) span) (solved solver.old)
+        (solved solver.new) result }
 {
     match known_head(solver, left) {
         Known::Unknown => Ok(Turn::Waits),
@@ -51,7 +53,9 @@ fn take_join_to(
 ) -> Result<Turn, SettleError>
     requires below { Below (ty_view whole.now) (variables solver.old) }
     ensures most { MostGeneral (accepted solver.new) (solution solver.new) }
-    ensures taken { (ss : Shapes) (left : s.Ty) → head (on left (solution solver.old)) ≡ Some (uint width) → IsTaken ss (asking (condition (cat left (ty_view right.now) (ty_view whole.now))) span) (solved solver.old) (solved solver.new) result }
+    ensures taken { (ss : Shapes) (left : s.Ty) → head (on left (solution solver.old)) ≡ Some (uint width)
+        → IsTaken ss (asking (condition (cat left (ty_view right.now) (ty_view whole.now))) span) (solved solver.old)
+        (solved solver.new) result }
 {
     match known_head(solver, right) {
         Known::Unknown => Ok(Turn::Waits),

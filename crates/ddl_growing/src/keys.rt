@@ -28,7 +28,8 @@ pub(crate) fn take_key(
 ) -> Result<Turn, SettleError>
     requires below { Below (ty_view of.now) (variables solver.old) }
     ensures most { MostGeneral (accepted solver.new) (solution solver.new) }
-    ensures taken { (ss : Shapes) → IsTaken ss (asking (condition (key (ty_view of.now))) span) (solved solver.old) (solved solver.new) result }
+    ensures taken { (ss : Shapes) → IsTaken ss (asking (condition (key (ty_view of.now))) span) (solved solver.old)
+        (solved solver.new) result }
 {
     match known_head(solver, of) {
         Known::Unknown => Ok(Turn::Waits),
@@ -48,7 +49,8 @@ fn add_byte_array(
     requires most { MostGeneral (accepted solver.old) (solution solver.old) }
     requires below { Below (ty_view of.now) (variables solver.old) }
     ensures most { MostGeneral (accepted solver.new) (solution solver.new) }
-    ensures added { Carries (byte_array (ty_view of.now) (variables solver.old)) span (solved solver.old) (solved solver.new) result }
+    ensures added { Carries (byte_array (ty_view of.now) (variables solver.old)) span (solved solver.old)
+        (solved solver.new) result }
 {
     let variable = fresh_variable(solver)?;
     let element = Ty::Var(variable);

@@ -39,7 +39,9 @@ pub(crate) fn take_loop(
     requires key_below { Below (ty_view form.key.now) (variables solver.old) }
     requires value_below { Below (ty_view form.value.now) (variables solver.old) }
     ensures most { MostGeneral (accepted solver.new) (solution solver.new) }
-    ensures taken { (ss : Shapes) → IsTaken ss (asking (condition (loops (ty_view form.entry.over.now) (ty_view form.entry.key.now) (ty_view form.entry.value.now))) span) (solved solver.old) (solved solver.new) result }
+    ensures taken { (ss : Shapes) → IsTaken ss
+        (asking (condition (loops (ty_view form.entry.over.now) (ty_view form.entry.key.now)
+        (ty_view form.entry.value.now))) span) (solved solver.old) (solved solver.new) result }
 {
     match known_head(solver, form.over) {
         Known::Unknown => Ok(Turn::Waits),
@@ -62,7 +64,8 @@ fn add_array_turns(
     requires key_below { Below (ty_view form.key.now) (variables solver.old) }
     requires value_below { Below (ty_view form.value.now) (variables solver.old) }
     ensures most { MostGeneral (accepted solver.new) (solution solver.new) }
-    ensures added { Carries (turns array_of (ty_view form.entry.over.now) (ty_view form.entry.key.now) (ty_view form.entry.value.now) (variables solver.old)) span (solved solver.old) (solved solver.new) result }
+    ensures added { Carries (turns array_of (ty_view form.entry.over.now) (ty_view form.entry.key.now)
+        (ty_view form.entry.value.now) (variables solver.old)) span (solved solver.old) (solved solver.new) result }
 {
     let variable = fresh_variable(solver)?;
     let element = Ty::Var(variable);
@@ -95,7 +98,8 @@ fn add_map_turns(
     requires key_below { Below (ty_view form.key.now) (variables solver.old) }
     requires value_below { Below (ty_view form.value.now) (variables solver.old) }
     ensures most { MostGeneral (accepted solver.new) (solution solver.new) }
-    ensures added { Carries (turns map_of (ty_view form.entry.over.now) (ty_view form.entry.key.now) (ty_view form.entry.value.now) (variables solver.old)) span (solved solver.old) (solved solver.new) result }
+    ensures added { Carries (turns map_of (ty_view form.entry.over.now) (ty_view form.entry.key.now)
+        (ty_view form.entry.value.now) (variables solver.old)) span (solved solver.old) (solved solver.new) result }
 {
     let of_key = fresh_variable(solver)?;
     let of_value = fresh_variable(solver)?;

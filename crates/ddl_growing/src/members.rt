@@ -44,7 +44,9 @@ pub(crate) fn take_member(
     requires result_below { Below (ty_view sought.result.now) (variables solver.old) }
     requires shapes { AreShapes (variables solver.old) (shapes_view shapes.now) }
     ensures most { MostGeneral (accepted solver.new) (solution solver.new) }
-    ensures taken { IsTaken (shapes_view shapes.now) (asking (for_member tagged (ty_view sought.entry.of.now) sought.entry.name.now (ty_view sought.entry.result.now)) span) (solved solver.old) (solved solver.new) result }
+    ensures taken { IsTaken (shapes_view shapes.now)
+        (asking (for_member tagged (ty_view sought.entry.of.now) sought.entry.name.now
+        (ty_view sought.entry.result.now)) span) (solved solver.old) (solved solver.new) result }
 {
     match known_head(solver, sought.of) {
         Known::Unknown => Ok(Turn::Waits),
@@ -68,7 +70,9 @@ pub(crate) fn take_make(
     requires result_below { Below (ty_view sought.result.now) (variables solver.old) }
     requires shapes { AreShapes (variables solver.old) (shapes_view shapes.now) }
     ensures most { MostGeneral (accepted solver.new) (solution solver.new) }
-    ensures taken { IsTaken (shapes_view shapes.now) (asking (make (ty_view sought.entry.of.now) sought.entry.name.now (ty_view sought.entry.result.now)) span) (solved solver.old) (solved solver.new) result }
+    ensures taken { IsTaken (shapes_view shapes.now)
+        (asking (make (ty_view sought.entry.of.now) sought.entry.name.now (ty_view sought.entry.result.now)) span)
+        (solved solver.old) (solved solver.new) result }
 {
     match known_head(solver, sought.of) {
         Known::Unknown => Ok(Turn::Waits),
@@ -90,7 +94,9 @@ fn add_bits_member(
     requires result_below { Below (ty_view sought.result.now) (variables solver.old) }
     requires shapes { AreShapes (variables solver.old) (shapes_view shapes.now) }
     ensures most { MostGeneral (accepted solver.new) (solution solver.new) }
-    ensures added { Carries (of_bits (found tagged sought.entry.name.now (bits_at (shapes_view shapes.now).bitdata number).shape) (ty_view sought.entry.result.now)) span (solved solver.old) (solved solver.new) result }
+    ensures added { Carries (of_bits (found tagged sought.entry.name.now
+        (bits_at (shapes_view shapes.now).bitdata number).shape) (ty_view sought.entry.result.now)) span
+        (solved solver.old) (solved solver.new) result }
 {
     match bits_member(shapes, number, tagged, sought.name) {
         None => Ok(Turn::Silent),
@@ -119,7 +125,9 @@ fn add_place_member(
     requires result_below { Below (ty_view sought.result.now) (variables solver.old) }
     requires shapes { AreShapes (variables solver.old) (shapes_view shapes.now) }
     ensures most { MostGeneral (accepted solver.new) (solution solver.new) }
-    ensures added { Carries (of_place (place_at (shapes_view shapes.now).places number) tagged number (ty_view sought.entry.of.now) sought.entry.name.now (ty_view sought.entry.result.now) (variables solver.old)) span (solved solver.old) (solved solver.new) result }
+    ensures added { Carries (of_place (place_at (shapes_view shapes.now).places number) tagged number
+        (ty_view sought.entry.of.now) sought.entry.name.now (ty_view sought.entry.result.now) (variables solver.old))
+        span (solved solver.old) (solved solver.new) result }
 {
     match place_member(shapes, number, tagged, sought.name) {
         None => Ok(Turn::Silent),
@@ -146,7 +154,8 @@ fn add_own(
     requires of_below { Below (ty_view sought.of.now) (variables solver.old) }
     requires result_below { Below (ty_view sought.result.now) (variables solver.old) }
     ensures most { MostGeneral (accepted solver.new) (solution solver.new) }
-    ensures added { Carries (of_found number 0 (variables solver.old) (ty_view member.now) (ty_view sought.entry.of.now) (ty_view sought.entry.result.now)) span (solved solver.old) (solved solver.new) result }
+    ensures added { Carries (of_found number 0 (variables solver.old) (ty_view member.now) (ty_view sought.entry.of.now)
+        (ty_view sought.entry.result.now)) span (solved solver.old) (solved solver.new) result }
 {
     let place = place_type(number, Vec::new(alloc));
     let places = Sides {
@@ -175,7 +184,9 @@ fn add_at_fresh(
     requires of_below { Below (ty_view sought.of.now) (variables solver.old) }
     requires result_below { Below (ty_view sought.result.now) (variables solver.old) }
     ensures most { MostGeneral (accepted solver.new) (solution solver.new) }
-    ensures added { Carries (of_found number member.entry.vars (variables solver.old) (ty_view member.entry.of.now) (ty_view sought.entry.of.now) (ty_view sought.entry.result.now)) span (solved solver.old) (solved solver.new) result }
+    ensures added { Carries (of_found number member.entry.vars (variables solver.old) (ty_view member.entry.of.now)
+        (ty_view sought.entry.of.now) (ty_view sought.entry.result.now)) span (solved solver.old) (solved solver.new)
+        result }
 {
     let arguments = fresh_variables(alloc, solver, member.vars)?;
     let applied = apply(alloc, member.of, &arguments)?;

@@ -44,7 +44,9 @@ pub fn take_turn(
     requires below { DemandBelow (variables solver.old) (demand_view asked.now.what) }
     requires shapes { AreShapes (variables solver.old) (shapes_view shapes.now) }
     ensures most { MostGeneral (accepted solver.new) (solution solver.new) }
-    ensures turn { MatchResult result (IsTurn (shapes_view shapes.now) (asked_view asked.now) (solved solver.old) (solved solver.new)) (IsNoTurn (shapes_view shapes.now) (asked_view asked.now) (solved solver.old) (solved solver.new)) }
+    ensures turn { MatchResult result (IsTurn (shapes_view shapes.now) (asked_view asked.now) (solved solver.old)
+        (solved solver.new)) (IsNoTurn (shapes_view shapes.now) (asked_view asked.now) (solved solver.old)
+        (solved solver.new)) }
 {
     let span = asked.span;
     match &asked.what {
@@ -81,7 +83,8 @@ fn take_condition(
     requires below { ConditionBelow (variables solver.old) (cond_view cond.now) }
     requires shapes { AreShapes (variables solver.old) (shapes_view shapes.now) }
     ensures most { MostGeneral (accepted solver.new) (solution solver.new) }
-    ensures taken { IsTaken (shapes_view shapes.now) (asking (condition (cond_view cond.now)) span) (solved solver.old) (solved solver.new) result }
+    ensures taken { IsTaken (shapes_view shapes.now) (asking (condition (cond_view cond.now)) span) (solved solver.old)
+        (solved solver.new) result }
 {
     match cond {
         Cond::Num(of) => Ok(wait_for(solver, of)),

@@ -1,7 +1,9 @@
 -- When two types are one.
-use Rattle.std.proofs.Common.{◌≡◌, ◌≢◌, ℕ, zero, suc, ◌+◌, ◌<◌, ◌≤◌, List, [], ◌∷◌, map, drop, length, get_or, Bool, true, false, ◌&&◌, refl, sym, ap, ◌∙◌, arith, eqb-true, eq-eqb, add-one}
+use Rattle.std.proofs.Common.{◌≡◌, ◌≢◌, ℕ, zero, suc, ◌+◌, ◌<◌, ◌≤◌, List, [], ◌∷◌, map, drop, length, get_or, Bool, true, false, ◌&&◌, refl, sym, ap, ◌∙◌}
+use Rattle.std.proofs.Common.{arith, eqb-true, eq-eqb, add-one}
 use Rattle.ddl_types.specs.declared.ty.Ty as program
-use Rattle.ddl_types.specs.Types.{Head, Head.int, Head.uint, Head.sint, Head.bool, Head.unit, Head.stream, Head.maybe_of, Head.array_of, Head.map_of, Head.bits, Head.place, Ty, Ty.var, Ty.con, Tys, Tys.none, Tys.more, tys_of}
+use Rattle.ddl_types.specs.Types.{Head, Head.int, Head.uint, Head.sint, Head.bool, Head.unit, Head.stream, Head.maybe_of, Head.array_of, Head.map_of, Head.bits}
+use Rattle.ddl_types.specs.Types.{Head.place, Ty, Ty.var, Ty.con, Tys, Tys.none, Tys.more, tys_of}
 use Rattle.ddl_types.specs.TyView.{ty_view}
 use Rattle.ddl_unify.specs.Heads.{head_eq}
 use Rattle.ddl_judging.specs.Same.{same, same_all}
@@ -104,12 +106,15 @@ same_end (l ∷ ls) [] i e h = absurd (omega arith)
 same_end (l ∷ ls) (r ∷ rs) zero e h = absurd (omega arith)
 same_end (l ∷ ls) (r ∷ rs) (suc i) e h = same_end ls rs i (omega arith) (omega arith)
 
-same_suc : (ls rs : List program.Ty) (i : ℕ) (l r : program.Ty) → i < length ls → i < length rs → l ≡ get_or ls i l → r ≡ get_or rs i r → same_all (views (drop i ls)) (views (drop i rs)) ≡ (same (ty_view l) (ty_view r) && same_all (views (drop (suc i) ls)) (views (drop (suc i) rs)))
+same_suc : (ls rs : List program.Ty) (i : ℕ) (l r : program.Ty) → i < length ls → i < length rs → l ≡ get_or ls i l → r ≡ get_or rs i r
+    → same_all (views (drop i ls)) (views (drop i rs)) ≡ (same (ty_view l) (ty_view r) && same_all (views (drop (suc i) ls)) (views (drop (suc i) rs)))
 same_suc [] rs i l r h k p q = absurd (omega arith)
 same_suc (x ∷ ls) [] i l r h k p q = absurd (omega arith)
-same_suc (x ∷ ls) (y ∷ rs) zero l r h k p q = ap (λ (z : program.Ty). same (ty_view z) (ty_view y) && same_all (views ls) (views rs)) (sym p) ∙ ap (λ (z : program.Ty). same (ty_view l) (ty_view z) && same_all (views ls) (views rs)) (sym q)
+same_suc (x ∷ ls) (y ∷ rs) zero l r h k p q = ap (λ (z : program.Ty). same (ty_view z) (ty_view y) && same_all (views ls) (views rs)) (sym p)
+    ∙ ap (λ (z : program.Ty). same (ty_view l) (ty_view z) && same_all (views ls) (views rs)) (sym q)
 same_suc (x ∷ ls) (y ∷ rs) (suc i) l r h k p q = same_suc ls rs i l r (omega arith) (omega arith) p q
 
 -- two lists from their i-th parts on
-pub same_next : (ls rs : List program.Ty) (i : ℕ) (l r : program.Ty) → i < length ls → i < length rs → l ≡ get_or ls i l → r ≡ get_or rs i r → same_all (views (drop i ls)) (views (drop i rs)) ≡ (same (ty_view l) (ty_view r) && same_all (views (drop (i + 1) ls)) (views (drop (i + 1) rs)))
+pub same_next : (ls rs : List program.Ty) (i : ℕ) (l r : program.Ty) → i < length ls → i < length rs → l ≡ get_or ls i l → r ≡ get_or rs i r
+    → same_all (views (drop i ls)) (views (drop i rs)) ≡ (same (ty_view l) (ty_view r) && same_all (views (drop (i + 1) ls)) (views (drop (i + 1) rs)))
 same_next ls rs i l r h k p q = rw (add-one i) (same_suc ls rs i l r h k p q)

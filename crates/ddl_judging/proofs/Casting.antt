@@ -1,6 +1,7 @@
 -- Which casts there are.
 use Rattle.std.proofs.Common.{◌≡◌, ℕ, Bool, true, false, ◌&&◌, ◌||◌, if◌then◌else◌, refl, ap}
-use Rattle.ddl_types.specs.Types.{Ty, Ty.var, Ty.con, Tys, Head, Head.int, Head.uint, Head.sint, Head.bool, Head.unit, Head.stream, Head.maybe_of, Head.array_of, Head.map_of, Head.bits, Head.place}
+use Rattle.ddl_types.specs.Types.{Ty, Ty.var, Ty.con, Tys, Head, Head.int, Head.uint, Head.sint, Head.bool, Head.unit, Head.stream, Head.maybe_of}
+use Rattle.ddl_types.specs.Types.{Head.array_of, Head.map_of, Head.bits, Head.place}
 use Rattle.ddl_judging.specs.Casts.{casting_to, bits_type, number_type, is_wide, is_filled}
 use Rattle.ddl_judging.specs.Judging.{if_equal, if_true, undecided, not_lossless, cutting, fitting, can_cut, can_fit, has_bits, is_number}
 use Rattle.ddl_judging.specs.Known.{is_known}
@@ -95,7 +96,8 @@ fit_is ss (uint m) map_of us ts = refl
 fit_is ss (uint m) (place p) us ts = refl
 fit_is ss (uint m) (bits b) us ts = or_false (is_wide ss m (con (bits b) ts))
 
-pub fitting_is : (ss : Shapes) (s t : Ty) → is_known s ≡ true → is_known t ≡ true → fitting ss s t ≡ if_true (is_filled ss s t || (bits_type s && number_type t)) (not_lossless s t)
+pub fitting_is : (ss : Shapes) (s t : Ty) → is_known s ≡ true → is_known t ≡ true
+    → fitting ss s t ≡ if_true (is_filled ss s t || (bits_type s && number_type t)) (not_lossless s t)
 fitting_is ss (var v) t e d = cc
 fitting_is ss (con h us) (var v) e d = cc
 fitting_is ss (con h us) (con k ts) e d = ap (λ b. if_true b (not_lossless (con h us) (con k ts))) (fit_is ss h k us ts)

@@ -1,6 +1,7 @@
 -- When two types can be joined.
 use Rattle.std.proofs.Common.{◌≡◌, ℕ, refl, true, false}
-use Rattle.ddl_types.specs.Types.{Ty, Ty.var, Ty.con, Tys, Head, Head.int, Head.uint, Head.sint, Head.bool, Head.unit, Head.stream, Head.maybe_of, Head.array_of, Head.map_of, Head.bits, Head.place}
+use Rattle.ddl_types.specs.Types.{Ty, Ty.var, Ty.con, Tys, Head, Head.int, Head.uint, Head.sint, Head.bool, Head.unit, Head.stream, Head.maybe_of}
+use Rattle.ddl_types.specs.Types.{Head.array_of, Head.map_of, Head.bits, Head.place}
 use Rattle.ddl_judging.specs.declared.refusal.Wanted.TheVariants as w
 use Rattle.ddl_judging.specs.Known.{is_known}
 use Rattle.ddl_judging.specs.Judging.{undecided, false_for, not_number, word_type, joined}

@@ -15,7 +15,8 @@ known_lossless ss (con h us) (var w) v a b k = cc
 known_lossless ss (con h us) (con g ts) v a b k = k
 
 -- two known types
-pub lossless_known : {E : Type 0} (o : Result program.Verdict E) (ss : Shapes) (s t : Ty) → is_known s ≡ true → is_known t ≡ true → IfOk o (λ v. IsCast (casting_at ss s t) s t (verdict_view v)) → IfOk o (λ v. IsLossless ss s t (verdict_view v))
+pub lossless_known : {E : Type 0} (o : Result program.Verdict E) (ss : Shapes) (s t : Ty) → is_known s ≡ true → is_known t ≡ true
+    → IfOk o (λ v. IsCast (casting_at ss s t) s t (verdict_view v)) → IfOk o (λ v. IsLossless ss s t (verdict_view v))
 lossless_known (Ok v) ss s t a b h = known_lossless ss s t (verdict_view v) a b h
 lossless_known (Err e) ss s t a b h = tt
 

@@ -1,5 +1,6 @@
 -- When two types can be made equal.
-use Rattle.std.proofs.Common.{◌≡◌, ℕ, zero, suc, ◌+◌, ◌<◌, ◌≤◌, List, [], ◌∷◌, map, take, length, get_or, Bool, true, false, sym, ap, ◌∙◌, arith, inl, inr, subst, add-one, Result, Ok, Err, IfOk}
+use Rattle.std.proofs.Common.{◌≡◌, ℕ, zero, suc, ◌+◌, ◌<◌, ◌≤◌, List, [], ◌∷◌, map, take, length, get_or, Bool, true, false, sym, ap, ◌∙◌, arith, inl, inr}
+use Rattle.std.proofs.Common.{subst, add-one, Result, Ok, Err, IfOk}
 use Rattle.ddl_types.specs.declared.ty.Ty as program
 use Rattle.ddl_types.specs.Types.{Ty, Ty.var, Tys, Tys.none, Tys.more, Sub, on, tys_of, Below, BelowAll}
 use Rattle.ddl_types.specs.TyView.{ty_view}
@@ -42,17 +43,20 @@ below_all_more none m n h b = tt
 below_all_more (more t ts) m n h b = (below_more t m n h b.0, below_all_more ts m n h b.1)
 
 -- the refusal of an equation tells that two types never meet
-pub refuted_meets : {E : Type 0} (o : Result Bool E) (d : EquateError) (f : Sub) (l r : Ty) → IfOk o (λ b. (b ≡ false) × (is_refuting d ≡ true)) → MostGeneral [] f → Refused d [] f l r → IfOk o (IsMeeting l r)
+pub refuted_meets : {E : Type 0} (o : Result Bool E) (d : EquateError) (f : Sub) (l r : Ty) → IfOk o (λ b. (b ≡ false) × (is_refuting d ≡ true))
+    → MostGeneral [] f → Refused d [] f l r → IfOk o (IsMeeting l r)
 refuted_meets (Ok b) d f l r h m k = let P : Bool → Type 0 = λ x. IsMeeting l r x in subst P (sym h.0) (refused_apart d f l r h.1 m k)
 refuted_meets (Err x) d f l r h m k = tt
 
-below_suc : (xs : List program.Ty) (i : ℕ) (x : program.Ty) (n : ℕ) → i < length xs → x ≡ get_or xs i x → BelowAll (tys_of (map ty_view (take i xs))) n → Below (ty_view x) n → BelowAll (tys_of (map ty_view (take (suc i) xs))) n
+below_suc : (xs : List program.Ty) (i : ℕ) (x : program.Ty) (n : ℕ) → i < length xs → x ≡ get_or xs i x → BelowAll (tys_of (map ty_view (take i xs))) n
+    → Below (ty_view x) n → BelowAll (tys_of (map ty_view (take (suc i) xs))) n
 below_suc [] i x n h e a b = absurd (omega arith)
 below_suc (y ∷ xs) zero x n h e a b = (let P : program.Ty → Type 0 = λ z. Below (ty_view z) n in subst P e b, tt)
 below_suc (y ∷ xs) (suc i) x n h e a b = (a.0, below_suc xs i x n (omega arith) e a.1 b)
 
 -- the variables of one part more are below a larger number
-pub below_next : (xs : List program.Ty) (i : ℕ) (x : program.Ty) (m n : ℕ) → i < length xs → x ≡ get_or xs i x → m ≤ n → BelowAll (tys_of (map ty_view (take i xs))) m → Below (ty_view x) n → BelowAll (tys_of (map ty_view (take (i + 1) xs))) n
+pub below_next : (xs : List program.Ty) (i : ℕ) (x : program.Ty) (m n : ℕ) → i < length xs → x ≡ get_or xs i x → m ≤ n
+    → BelowAll (tys_of (map ty_view (take i xs))) m → Below (ty_view x) n → BelowAll (tys_of (map ty_view (take (i + 1) xs))) n
 below_next xs i x m n h e k a b =
     let P : ℕ → Type 0 = λ j. BelowAll (tys_of (map ty_view (take j xs))) n in
     subst P (sym (add-one i)) (below_suc xs i x n h e (below_all_more (tys_of (map ty_view (take i xs))) m n k a) b)

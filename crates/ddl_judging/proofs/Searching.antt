@@ -1,5 +1,6 @@
 -- Members of shapes.
-use Rattle.std.proofs.Common.{◌≡◌, ℕ, zero, suc, ◌<◌, ◌≤◌, List, [], ◌∷◌, length, map, get_or, Option, Some, None, is_some, MatchOption, Bor, HoldsAt, refl, sym, ap, ◌∙◌, arith}
+use Rattle.std.proofs.Common.{◌≡◌, ℕ, zero, suc, ◌<◌, ◌≤◌, List, [], ◌∷◌, length, map, get_or, Option, Some, None, is_some, MatchOption, Bor, HoldsAt, refl}
+use Rattle.std.proofs.Common.{sym, ap, ◌∙◌, arith}
 use Rattle.ddl_judging.specs.declared.shapes.BitsShape.{BitsShape}
 use Rattle.ddl_types.specs.Types.{Ty}
 use Rattle.ddl_judging.specs.Judging.{if_member}
@@ -28,6 +29,8 @@ bits_some (x ∷ xs) zero b h e = ap bit_shape (sym e)
 bits_some (x ∷ xs) (suc i) b h e = bits_some xs i b (omega arith) e
 
 -- what a look-up of a list answers, said of the shapes
-pub bits_lookup : (o : Option (Bor BitsShape)) (xs ys : List BitsShape) (i : ℕ) → ys ≡ xs → MatchOption o (length ys ≤ i) (λ x. (i < length ys) × HoldsAt (λ y. x.now ≡ y) ys i) → MatchOption o (bits_at (map bit_shape xs) i ≡ no_bits) (λ b. bits_at (map bit_shape xs) i ≡ bit_shape b.now)
+pub bits_lookup : (o : Option (Bor BitsShape)) (xs ys : List BitsShape) (i : ℕ) → ys ≡ xs
+    → MatchOption o (length ys ≤ i) (λ x. (i < length ys) × HoldsAt (λ y. x.now ≡ y) ys i)
+    → MatchOption o (bits_at (map bit_shape xs) i ≡ no_bits) (λ b. bits_at (map bit_shape xs) i ≡ bit_shape b.now)
 bits_lookup None xs ys i e h = ap (λ (z : List BitsShape). bits_at (map bit_shape z) i) (sym e) ∙ bits_none ys i h
 bits_lookup (Some b) xs ys i e h = ap (λ (z : List BitsShape). bits_at (map bit_shape z) i) (sym e) ∙ bits_some ys i b.now h.0 (h.1 b.now)

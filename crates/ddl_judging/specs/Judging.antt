@@ -1,6 +1,7 @@
 -- Whether a demand holds, by its types as they are solved.
 use Rattle.std.specs.Prelude.{◌≡◌, ◌≢◌, ℕ, ◌+◌, ◌-◌, ◌^◌, ◌==◌, List, nat_lt, nat_le, if◌then◌else◌, Bool, true, false, Option, Some, None}
-use Rattle.ddl_types.specs.Types.{Ty, Ty.var, Ty.con, Sub, on, Head, Head.int, Head.uint, Head.sint, Head.bool, Head.array_of, Head.map_of, Head.bits, Head.place}
+use Rattle.ddl_types.specs.Types.{Ty, Ty.var, Ty.con, Sub, on, Head, Head.int, Head.uint, Head.sint, Head.bool, Head.array_of, Head.map_of, Head.bits}
+use Rattle.ddl_types.specs.Types.{Head.place}
 use Rattle.ddl_types.specs.Conditions.{num, word, lit, key, lossless, cut, fit, cat, field, tag, loops}
 use Rattle.ddl_unify.specs.Equations.{Apart}
 use Rattle.ddl_judging.specs.declared.refusal.Wanted.{Wanted}

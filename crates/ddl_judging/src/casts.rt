@@ -4,8 +4,10 @@ ghost use Rattle.std.specs.Prelude.{◌≡◌, ◌||◌, ◌==◌, IfOk, false, 
 ghost use Rattle.ddl_types.specs.Types.{on, Head.uint, Head.sint, Head.int, Head.bits};
 ghost use Rattle.ddl_types.specs.TyView.{ty_view};
 ghost use Rattle.ddl_unify.specs.State.{solution};
-ghost use Rattle.ddl_judging.specs.Casts.{casting_view, casting_to, casting_at, number_type, bits_type, is_wide, is_filled};
-ghost use Rattle.ddl_judging.specs.Judging.{false_for, not_lossless, cutting, fitting, IsLossless, IsCast, IsEqual, if_keeps, if_covered};
+ghost use Rattle.ddl_judging.specs.Casts.{casting_view, casting_to, casting_at, number_type, bits_type, is_wide};
+ghost use Rattle.ddl_judging.specs.Casts.{is_filled};
+ghost use Rattle.ddl_judging.specs.Judging.{false_for, not_lossless, cutting, fitting, IsLossless, IsCast, IsEqual};
+ghost use Rattle.ddl_judging.specs.Judging.{if_keeps, if_covered};
 ghost use Rattle.ddl_judging.specs.Known.{is_known};
 ghost use Rattle.ddl_judging.specs.Shapes.{bits_at};
 ghost use Rattle.ddl_judging.specs.VerdictView.{verdict_view};
@@ -78,7 +80,8 @@ fn gap_of(shapes: &Shapes, number: u32) -> Option<u128>
 /// The table's row of `uint`.
 #[tactic(auto, using(ddl_types::proofs::TyLayers::layers))]
 fn from_uint(solver: &Solver, shapes: &Shapes, width: u8, to: &Ty) -> Casting
-    ensures { casting_view result ≡ casting_to (shapes_view shapes.now) (uint width) (on (ty_view to.now) (solution solver.now)) }
+    ensures { casting_view result ≡ casting_to (shapes_view shapes.now) (uint width)
+        (on (ty_view to.now) (solution solver.now)) }
 {
     match solver.head(to) {
         Ty::Uint(other) => if_keeps(width <= *other),
@@ -92,7 +95,8 @@ fn from_uint(solver: &Solver, shapes: &Shapes, width: u8, to: &Ty) -> Casting
 /// The table's row of `sint`.
 #[tactic(auto, using(ddl_types::proofs::TyLayers::layers))]
 fn from_sint(solver: &Solver, shapes: &Shapes, width: u8, to: &Ty) -> Casting
-    ensures { casting_view result ≡ casting_to (shapes_view shapes.now) (sint width) (on (ty_view to.now) (solution solver.now)) }
+    ensures { casting_view result ≡ casting_to (shapes_view shapes.now) (sint width)
+        (on (ty_view to.now) (solution solver.now)) }
 {
     match solver.head(to) {
         Ty::Sint(other) => if_keeps(width <= *other),
@@ -115,7 +119,8 @@ fn from_int(solver: &Solver, shapes: &Shapes, to: &Ty) -> Casting
 /// The table's row of a bitdata.
 #[tactic(auto, using(ddl_types::proofs::TyLayers::layers))]
 fn from_bits(solver: &Solver, shapes: &Shapes, number: u32, to: &Ty) -> Casting
-    ensures { casting_view result ≡ casting_to (shapes_view shapes.now) (bits number) (on (ty_view to.now) (solution solver.now)) }
+    ensures { casting_view result ≡ casting_to (shapes_view shapes.now) (bits number)
+        (on (ty_view to.now) (solution solver.now)) }
 {
     match solver.head(to) {
         Ty::Uint(width) => if_keeps(width_of(shapes, number) == *width),
@@ -126,7 +131,8 @@ fn from_bits(solver: &Solver, shapes: &Shapes, number: u32, to: &Ty) -> Casting
 /// What the table says of a cast.
 #[tactic(auto, using(ddl_types::proofs::TyLayers::layers, crate::proofs::Casting::silent))]
 fn row_of(solver: &Solver, shapes: &Shapes, from: &Ty, to: &Ty) -> Casting
-    ensures { casting_view result ≡ casting_at (shapes_view shapes.now) (on (ty_view from.now) (solution solver.now)) (on (ty_view to.now) (solution solver.now)) }
+    ensures { casting_view result ≡ casting_at (shapes_view shapes.now) (on (ty_view from.now) (solution solver.now))
+        (on (ty_view to.now) (solution solver.now)) }
 {
     match solver.head(from) {
         Ty::Uint(width) => from_uint(solver, shapes, *width, to),
@@ -170,7 +176,8 @@ fn is_wide(solver: &Solver, shapes: &Shapes, width: u8, t: &Ty) -> bool
 /// A `uint`, and a bitdata of its width.
 #[tactic(auto, using(ddl_types::proofs::TyLayers::layers))]
 fn is_filled(solver: &Solver, shapes: &Shapes, from: &Ty, to: &Ty) -> bool
-    ensures { result ≡ is_filled (shapes_view shapes.now) (on (ty_view from.now) (solution solver.now)) (on (ty_view to.now) (solution solver.now)) }
+    ensures { result ≡ is_filled (shapes_view shapes.now) (on (ty_view from.now) (solution solver.now))
+        (on (ty_view to.now) (solution solver.now)) }
 {
     match solver.head(from) {
         Ty::Uint(width) => is_wide(solver, shapes, *width, to),
@@ -180,7 +187,9 @@ fn is_filled(solver: &Solver, shapes: &Shapes, from: &Ty, to: &Ty) -> bool
 
 /// It is false, since the cast from one type to the other is not lossless, or is none.
 fn not_lossless(solver: &Solver, from: &Ty, to: &Ty) -> Result<Verdict, NoMemory>
-    ensures { IfOk result (λ v. verdict_view v ≡ false_for (not_lossless (on (ty_view from.now) (solution solver.now)) (on (ty_view to.now) (solution solver.now)))) }
+    ensures { IfOk result (λ v. verdict_view v
+        ≡ false_for (not_lossless (on (ty_view from.now) (solution solver.now))
+        (on (ty_view to.now) (solution solver.now)))) }
 {
     let from = solver.read(from)?;
     let to = solver.read(to)?;
@@ -190,7 +199,8 @@ fn not_lossless(solver: &Solver, from: &Ty, to: &Ty) -> Result<Verdict, NoMemory
 /// A cast that may cut off bits.
 #[tactic(auto, using(crate::proofs::Casting::cuttings))]
 pub(crate) fn cutting(solver: &Solver, from: &Ty, to: &Ty) -> Result<Verdict, NoMemory>
-    ensures { IfOk result (λ v. verdict_view v ≡ cutting (on (ty_view from.now) (solution solver.now)) (on (ty_view to.now) (solution solver.now))) }
+    ensures { IfOk result (λ v. verdict_view v
+        ≡ cutting (on (ty_view from.now) (solution solver.now)) (on (ty_view to.now) (solution solver.now))) }
 {
     if !is_known(solver, from) || !is_known(solver, to) {
         return Ok(Verdict::Undecided);
@@ -209,7 +219,9 @@ pub(crate) fn fitting(
     from: &Ty,
     to: &Ty,
 ) -> Result<Verdict, NoMemory>
-    ensures { IfOk result (λ v. verdict_view v ≡ fitting (shapes_view shapes.now) (on (ty_view from.now) (solution solver.now)) (on (ty_view to.now) (solution solver.now))) }
+    ensures { IfOk result (λ v. verdict_view v
+        ≡ fitting (shapes_view shapes.now) (on (ty_view from.now) (solution solver.now))
+        (on (ty_view to.now) (solution solver.now))) }
 {
     if !is_known(solver, from) || !is_known(solver, to) {
         return Ok(Verdict::Undecided);
@@ -228,7 +240,9 @@ fn by_table(
     from: &Ty,
     to: &Ty,
 ) -> Result<Verdict, NoMemory>
-    ensures { IfOk result (λ v. IsCast (casting_at (shapes_view shapes.now) (on (ty_view from.now) (solution solver.now)) (on (ty_view to.now) (solution solver.now))) (on (ty_view from.now) (solution solver.now)) (on (ty_view to.now) (solution solver.now)) (verdict_view v)) }
+    ensures { IfOk result (λ v. IsCast (casting_at (shapes_view shapes.now)
+        (on (ty_view from.now) (solution solver.now)) (on (ty_view to.now) (solution solver.now)))
+        (on (ty_view from.now) (solution solver.now)) (on (ty_view to.now) (solution solver.now)) (verdict_view v)) }
 {
     match row_of(solver, shapes, from, to) {
         Casting::Keeps => Ok(Verdict::Holds),
@@ -240,7 +254,8 @@ fn by_table(
 
 /// A cast between two types as they are solved, of which the table says nothing.
 fn if_equal(alloc: Global, solver: &Solver, from: &Ty, to: &Ty) -> Result<Verdict, NoMemory>
-    ensures { IfOk result (λ v. IsEqual (on (ty_view from.now) (solution solver.now)) (on (ty_view to.now) (solution solver.now)) (verdict_view v)) }
+    ensures { IfOk result (λ v. IsEqual (on (ty_view from.now) (solution solver.now))
+        (on (ty_view to.now) (solution solver.now)) (verdict_view v)) }
 {
     let from = solver.read(from)?;
     let to = solver.read(to)?;
@@ -256,7 +271,8 @@ pub(crate) fn lossless(
     from: &Ty,
     to: &Ty,
 ) -> Result<Verdict, NoMemory>
-    ensures { IfOk result (λ v. IsLossless (shapes_view shapes.now) (on (ty_view from.now) (solution solver.now)) (on (ty_view to.now) (solution solver.now)) (verdict_view v)) }
+    ensures { IfOk result (λ v. IsLossless (shapes_view shapes.now) (on (ty_view from.now) (solution solver.now))
+        (on (ty_view to.now) (solution solver.now)) (verdict_view v)) }
 {
     if is_known(solver, from) && is_known(solver, to) {
         return by_table(alloc, solver, shapes, from, to);

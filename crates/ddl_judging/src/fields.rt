@@ -21,7 +21,8 @@ use std::alloc::Global;
 
 /// The bitdata of a number.
 pub(crate) fn bits_of(shapes: &Shapes, number: u32) -> Option<&BitsShape>
-    ensures { MatchOption result (bits_at (shapes_view shapes.now).bitdata number ≡ no_bits) (λ b. bits_at (shapes_view shapes.now).bitdata number ≡ bit_shape b.now) }
+    ensures { MatchOption result (bits_at (shapes_view shapes.now).bitdata number ≡ no_bits) (λ b.
+        bits_at (shapes_view shapes.now).bitdata number ≡ bit_shape b.now) }
 {
     shapes.bits.get(number as usize)
 }
@@ -44,7 +45,8 @@ fn bits_have(shapes: &Shapes, number: u32, tagged: bool, name: &[u8]) -> bool
 
 /// It is false, since the type has no member of the name.
 fn no_field(alloc: Global, solver: &Solver, t: &Ty, name: &[u8]) -> Result<Verdict, NoMemory>
-    ensures { IfOk result (λ v. verdict_view v ≡ false_for (no_field name.now (on (ty_view t.now) (solution solver.now)))) }
+    ensures { IfOk result (λ v. verdict_view v
+        ≡ false_for (no_field name.now (on (ty_view t.now) (solution solver.now)))) }
 {
     let name = Bytes::of(alloc, name)?;
     let of = solver.read(t)?;
@@ -76,7 +78,8 @@ pub(crate) fn has_field(
     t: &Ty,
     name: &[u8],
 ) -> Result<Verdict, NoMemory>
-    ensures { IfOk result (λ v. verdict_view v ≡ has_field (shapes_view shapes.now) name.now (on (ty_view t.now) (solution solver.now))) }
+    ensures { IfOk result (λ v. verdict_view v
+        ≡ has_field (shapes_view shapes.now) name.now (on (ty_view t.now) (solution solver.now))) }
 {
     match solver.head(t) {
         Ty::Var(_) => Ok(Verdict::Undecided),
@@ -101,7 +104,8 @@ pub(crate) fn has_tag(
     t: &Ty,
     name: &[u8],
 ) -> Result<Verdict, NoMemory>
-    ensures { IfOk result (λ v. verdict_view v ≡ has_tag (shapes_view shapes.now) name.now (on (ty_view t.now) (solution solver.now))) }
+    ensures { IfOk result (λ v. verdict_view v
+        ≡ has_tag (shapes_view shapes.now) name.now (on (ty_view t.now) (solution solver.now))) }
 {
     match solver.head(t) {
         Ty::Var(_) => Ok(Verdict::Undecided),
@@ -126,7 +130,8 @@ pub(crate) fn makes(
     t: &Ty,
     name: &[u8],
 ) -> Result<Verdict, NoMemory>
-    ensures { IfOk result (λ v. verdict_view v ≡ makes (shapes_view shapes.now) name.now (on (ty_view t.now) (solution solver.now))) }
+    ensures { IfOk result (λ v. verdict_view v
+        ≡ makes (shapes_view shapes.now) name.now (on (ty_view t.now) (solution solver.now))) }
 {
     match solver.head(t) {
         Ty::Var(_) => Ok(Verdict::Undecided),

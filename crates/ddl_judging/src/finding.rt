@@ -18,7 +18,8 @@ pub struct Member<'a> {
 
 /// The type of the first member of a name.
 fn first_of<'a>(name: &[u8], names: &[Bytes], types: &'a [Ty]) -> Option<&'a Ty>
-    ensures { MatchOption result (member name.now names.now (map ty_view types.now) ≡ None) (λ t. member name.now names.now (map ty_view types.now) ≡ Some (ty_view t.now)) }
+    ensures { MatchOption result (member name.now names.now (map ty_view types.now) ≡ None) (λ t.
+        member name.now names.now (map ty_view types.now) ≡ Some (ty_view t.now)) }
 {
     let count = names.len().min(types.len());
     for i in 0..count {
@@ -36,7 +37,9 @@ pub fn place_member<'a>(
     tagged: bool,
     name: &[u8],
 ) -> Option<Member<'a>>
-    ensures { MatchOption result (found tagged name.now (place_at (shapes_view shapes.now).places number) ≡ None) (λ m. (found tagged name.now (place_at (shapes_view shapes.now).places number) ≡ Some (ty_view m.of.now)) × (m.vars ≡ (place_at (shapes_view shapes.now).places number).vars)) }
+    ensures { MatchOption result (found tagged name.now (place_at (shapes_view shapes.now).places number) ≡ None) (λ m.
+        (found tagged name.now (place_at (shapes_view shapes.now).places number) ≡ Some (ty_view m.of.now))
+        × (m.vars ≡ (place_at (shapes_view shapes.now).places number).vars)) }
 {
     let number = number as usize;
     if number >= shapes.places.len() {
@@ -57,7 +60,8 @@ pub fn place_member<'a>(
 
 /// A field, or a tag, of a bitdata.
 pub fn bits_member<'a>(shapes: &'a Shapes, number: u32, tagged: bool, name: &[u8]) -> Option<&'a Ty>
-    ensures { MatchOption result (found tagged name.now (bits_at (shapes_view shapes.now).bitdata number).shape ≡ None) (λ t. found tagged name.now (bits_at (shapes_view shapes.now).bitdata number).shape ≡ Some (ty_view t.now)) }
+    ensures { MatchOption result (found tagged name.now (bits_at (shapes_view shapes.now).bitdata number).shape ≡ None)
+        (λ t. found tagged name.now (bits_at (shapes_view shapes.now).bitdata number).shape ≡ Some (ty_view t.now)) }
 {
     let number = number as usize;
     if number >= shapes.bits.len() {

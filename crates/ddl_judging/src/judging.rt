@@ -36,7 +36,8 @@ pub fn judge(
     what: &Demand,
 ) -> Result<Verdict, NoMemory>
     requires below { DemandBelow (variables solver.now) (demand_view what.now) }
-    ensures { IfOk result (λ v. Judged (shapes_view shapes.now) (on_demand (solution solver.now) (demand_view what.now)) (verdict_view v)) }
+    ensures { IfOk result (λ v. Judged (shapes_view shapes.now) (on_demand (solution solver.now) (demand_view what.now))
+        (verdict_view v)) }
 {
     match what {
         Demand::Cond(cond) => judge_cond(alloc, solver, shapes, cond),
@@ -52,7 +53,8 @@ fn judge_cond(
     shapes: &Shapes,
     cond: &Cond,
 ) -> Result<Verdict, NoMemory>
-    ensures { IfOk result (λ v. Judged (shapes_view shapes.now) (on_demand (solution solver.now) (condition (cond_view cond.now))) (verdict_view v)) }
+    ensures { IfOk result (λ v. Judged (shapes_view shapes.now)
+        (on_demand (solution solver.now) (condition (cond_view cond.now))) (verdict_view v)) }
 {
     match cond {
         Cond::Num(t) => number(solver, t),

@@ -4,7 +4,8 @@ ghost use Rattle.std.specs.Prelude.{◌≡◌, ◌+◌, ◌^◌, nat_le, nat_lt,
 ghost use Rattle.ddl_types.specs.Types.{on, Ty.con, Tys.none, Head.uint};
 ghost use Rattle.ddl_types.specs.TyView.{ty_view};
 ghost use Rattle.ddl_unify.specs.State.{solution};
-ghost use Rattle.ddl_judging.specs.Judging.{false_for, if_true, not_number, literal_range, width_range, number, word_type, literal, comparable, joined, looped};
+ghost use Rattle.ddl_judging.specs.Judging.{false_for, if_true, not_number, literal_range, width_range, number};
+ghost use Rattle.ddl_judging.specs.Judging.{word_type, literal, comparable, joined, looped};
 ghost use Rattle.ddl_judging.specs.VerdictView.{verdict_view};
 ghost use Rattle.ddl_judging.specs.declared.refusal.Wanted.TheVariants as wanted;
 
@@ -17,7 +18,8 @@ use ddl_unify::Solver;
 
 /// It is false, since the type is not what is wanted.
 fn not_number(solver: &Solver, t: &Ty, wanted: Wanted) -> Result<Verdict, NoMemory>
-    ensures { IfOk result (λ v. verdict_view v ≡ false_for (not_number (on (ty_view t.now) (solution solver.now)) wanted)) }
+    ensures { IfOk result (λ v. verdict_view v
+        ≡ false_for (not_number (on (ty_view t.now) (solution solver.now)) wanted)) }
 {
     let of = solver.read(t)?;
     Ok(Verdict::False(Wrong::NotNumber { of, wanted }))
@@ -85,7 +87,8 @@ fn is_below_power(number: u128, exponent: u8) -> bool
 
 /// It holds where the number is below a power of two, and else the number is out of the type's range.
 fn in_range(solver: &Solver, number: u128, t: &Ty, exponent: u8) -> Result<Verdict, NoMemory>
-    ensures { IfOk result (λ v. verdict_view v ≡ if_true (nat_lt number (2 ^ exponent)) (literal_range number (on (ty_view t.now) (solution solver.now)))) }
+    ensures { IfOk result (λ v. verdict_view v
+        ≡ if_true (nat_lt number (2 ^ exponent)) (literal_range number (on (ty_view t.now) (solution solver.now)))) }
 {
     if is_below_power(number, exponent) {
         return Ok(Verdict::Holds);
@@ -95,7 +98,8 @@ fn in_range(solver: &Solver, number: u128, t: &Ty, exponent: u8) -> Result<Verdi
 
 /// The number is out of the type's range.
 fn out_of_range(solver: &Solver, number: u128, t: &Ty) -> Result<Verdict, NoMemory>
-    ensures { IfOk result (λ v. verdict_view v ≡ false_for (literal_range number (on (ty_view t.now) (solution solver.now)))) }
+    ensures { IfOk result (λ v. verdict_view v
+        ≡ false_for (literal_range number (on (ty_view t.now) (solution solver.now)))) }
 {
     let of = solver.read(t)?;
     Ok(Verdict::False(Wrong::LiteralRange { number, of }))
@@ -130,7 +134,8 @@ fn in_width(left: u8, right: u8) -> Verdict
 /// Two `uint`s of at most 128 bits together.
 #[tactic(auto, using(ddl_types::proofs::TyLayers::layers))]
 pub(crate) fn joined(solver: &Solver, left: &Ty, right: &Ty) -> Result<Verdict, NoMemory>
-    ensures { IfOk result (λ v. verdict_view v ≡ joined (on (ty_view left.now) (solution solver.now)) (on (ty_view right.now) (solution solver.now))) }
+    ensures { IfOk result (λ v. verdict_view v
+        ≡ joined (on (ty_view left.now) (solution solver.now)) (on (ty_view right.now) (solution solver.now))) }
 {
     match solver.head(left) {
         Ty::Var(_) => Ok(Verdict::Undecided),
@@ -142,7 +147,8 @@ pub(crate) fn joined(solver: &Solver, left: &Ty, right: &Ty) -> Result<Verdict, 
 /// A `uint` after one of this width.
 #[tactic(auto, using(ddl_types::proofs::TyLayers::layers))]
 fn joined_after(solver: &Solver, width: u8, right: &Ty) -> Result<Verdict, NoMemory>
-    ensures { IfOk result (λ v. verdict_view v ≡ joined (con (uint width) none) (on (ty_view right.now) (solution solver.now))) }
+    ensures { IfOk result (λ v. verdict_view v
+        ≡ joined (con (uint width) none) (on (ty_view right.now) (solution solver.now))) }
 {
     match solver.head(right) {
         Ty::Var(_) => Ok(Verdict::Undecided),
@@ -154,8 +160,10 @@ fn joined_after(solver: &Solver, width: u8, right: &Ty) -> Result<Verdict, NoMem
 /// A type after one that is known to be no `uint`.
 #[tactic(auto, using(crate::proofs::JoinedWords::joined_unknown, crate::proofs::JoinedWords::joined_known))]
 fn joined_to(solver: &Solver, left: &Ty, right: &Ty) -> Result<Verdict, NoMemory>
-    requires { word_type (on (ty_view left.now) (solution solver.now)) ≡ false_for (not_number (on (ty_view left.now) (solution solver.now)) wanted.Word) }
-    ensures { IfOk result (λ v. verdict_view v ≡ joined (on (ty_view left.now) (solution solver.now)) (on (ty_view right.now) (solution solver.now))) }
+    requires { word_type (on (ty_view left.now) (solution solver.now))
+        ≡ false_for (not_number (on (ty_view left.now) (solution solver.now)) wanted.Word) }
+    ensures { IfOk result (λ v. verdict_view v
+        ≡ joined (on (ty_view left.now) (solution solver.now)) (on (ty_view right.now) (solution solver.now))) }
 {
     if !is_known(solver, right) {
         return Ok(Verdict::Undecided);

@@ -85,7 +85,8 @@ fn is_variable(solver: &Solver, t: &Ty, v: u32) -> bool
 /// Whether the solution leaves two types one variable.
 #[tactic(auto, using(ddl_types::proofs::TyLayers::layers))]
 pub(crate) fn same_variable(solver: &Solver, left: &Ty, right: &Ty) -> bool
-    ensures { result ≡ same_variable (on (ty_view left.now) (solution solver.now)) (on (ty_view right.now) (solution solver.now)) }
+    ensures { result ≡ same_variable (on (ty_view left.now) (solution solver.now))
+        (on (ty_view right.now) (solution solver.now)) }
 {
     match solver.head(left) {
         Ty::Var(v) => is_variable(solver, right, *v),

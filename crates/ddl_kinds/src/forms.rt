@@ -1,7 +1,8 @@
 ghost use Rattle.std.specs.Prelude.{◌≡◌};
 ghost use Rattle.ddl_tree.specs.View.{alts_view, typed_view, view};
 ghost use Rattle.ddl_kinds.specs.Findings.{wants};
-ghost use Rattle.ddl_kinds.specs.Kinds.{cast_want, first_want, form_of_cast, form_of_infix, form_of_parens, free_want, settled, sides};
+ghost use Rattle.ddl_kinds.specs.Kinds.{cast_want, first_want, form_of_cast, form_of_infix, form_of_parens, free_want};
+ghost use Rattle.ddl_kinds.specs.Kinds.{settled, sides};
 ghost use Rattle.ddl_kinds.specs.Found.{meaning_view, wants_view};
 
 use crate::meaning::{Arguments, Meaning};

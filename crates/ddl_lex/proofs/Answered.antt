@@ -1,5 +1,6 @@
 -- A text is cut on until it ends or has an error.
-use Rattle.std.proofs.Common.{◌≡◌, ◌≢◌, ◌<◌, ◌≤◌, ◌⊎◌, ◌^◌, ℕ, zero, suc, ◌+◌, ◌&&◌, ◌==◌, nat_lt, Bool, true, false, List, [], ◌∷◌, length, take, drop, get_or, Option, Some, None, Result, Ok, Err, inl, inr, refl, ap, sym, subst, arith, length-drop, if◌then◌else◌}
+use Rattle.std.proofs.Common.{◌≡◌, ◌≢◌, ◌<◌, ◌≤◌, ◌⊎◌, ◌^◌, ℕ, zero, suc, ◌+◌, ◌&&◌, ◌==◌, nat_lt, Bool, true, false, List, [], ◌∷◌, length, take, drop, get_or}
+use Rattle.std.proofs.Common.{Option, Some, None, Result, Ok, Err, inl, inr, refl, ap, sym, subst, arith, length-drop, if◌then◌else◌}
 use Rattle.std.proofs.Math.Seq.{drop-cons}
 use Rattle.std.proofs.lemmas.Bool.{ltb-true}
 use Rattle.std.proofs.lemmas.Bool.Decides.{nat_tests}
@@ -119,17 +120,21 @@ Answered text = ((tokens : List Token) × Cut text tokens (length text)) ⊎ ((e
 abbrev GoesOn : List ℕ → ℕ → Type 0
 GoesOn text at = (tokens : List Token) (to : ℕ) → at < to → to ≤ length text → length tokens ≤ 2 ^ 20 → Cut text tokens to → Answered text
 
-answer_at : (text : List ℕ) (tokens : List Token) (at : ℕ) (r : Found) → stands text tokens at ≡ r → at < length text → length tokens ≤ 2 ^ 20 → Cut text tokens at → GoesOn text at → Answered text
+answer_at : (text : List ℕ) (tokens : List Token) (at : ℕ) (r : Found) → stands text tokens at ≡ r → at < length text → length tokens ≤ 2 ^ 20
+    → Cut text tokens at → GoesOn text at → Answered text
 answer_at text tokens at (Err NoMemory) s h few c on = absurd (next_memory (is_full tokens) at (get_or text at 0) (drop at text) s)
 answer_at text tokens at (Err (BadByte a)) s h few c on = inr (BadByte a, (λ x. (cc)), (tokens, at, c, h, stands_error text tokens at (BadByte a) h s))
 answer_at text tokens at (Err (OpenText a)) s h few c on = inr (OpenText a, (λ x. (cc)), (tokens, at, c, h, stands_error text tokens at (OpenText a) h s))
 answer_at text tokens at (Err (BadEscape a)) s h few c on = inr (BadEscape a, (λ x. (cc)), (tokens, at, c, h, stands_error text tokens at (BadEscape a) h s))
-answer_at text tokens at (Err (NumberTooWide a)) s h few c on = inr (NumberTooWide a, (λ x. (cc)), (tokens, at, c, h, stands_error text tokens at (NumberTooWide a) h s))
-answer_at text tokens at (Err (TooManyTokens a)) s h few c on = inr (TooManyTokens a, (λ x. (cc)), (tokens, at, c, h, stands_error text tokens at (TooManyTokens a) h s))
+answer_at text tokens at (Err (NumberTooWide a)) s h few c on =
+    inr (NumberTooWide a, (λ x. (cc)), (tokens, at, c, h, stands_error text tokens at (NumberTooWide a) h s))
+answer_at text tokens at (Err (TooManyTokens a)) s h few c on =
+    inr (TooManyTokens a, (λ x. (cc)), (tokens, at, c, h, stands_error text tokens at (TooManyTokens a) h s))
 answer_at text tokens at (Ok (found, n)) s h few c on =
     let b = get_or text at 0 in
     let rest : drop at text ≡ b ∷ drop (suc at) text = drop-cons text at 0 h in
-    let there : IsPiece text tokens at found n = next_right text (drop at text) tokens at b found n few refl (omega (arith, h, length-drop at text)) (ap (λ z. get_or z 0 0) (sym rest)) s in
+    let there : IsPiece text tokens at found n = next_right text (drop at text) tokens at b found n few refl (omega (arith, h, length-drop at text))
+    (ap (λ z. get_or z 0 0) (sym rest)) s in
     on (with_token tokens (place_at text at) (at + n) found) (at + n) (omega (arith, there.0.1)) (omega (arith, there.0.0, h, length-drop at text))
     (few_more tokens (place_at text at) (at + n) found few (next_found (is_full tokens) at b (drop at text) found n s).1)
     (more found n c h there)
@@ -137,16 +142,19 @@ answer_at text tokens at (Ok (found, n)) s h few c on =
 at_end : (a b : ℕ) → nat_lt a b ≡ false → a ≤ b → a ≡ b
 at_end a b e h = grind (arith, nat_tests)
 
-answer_test : (text : List ℕ) (tokens : List Token) (at : ℕ) (v : Bool) → nat_lt at (length text) ≡ v → at ≤ length text → length tokens ≤ 2 ^ 20 → Cut text tokens at → GoesOn text at → Answered text
+answer_test : (text : List ℕ) (tokens : List Token) (at : ℕ) (v : Bool) → nat_lt at (length text) ≡ v → at ≤ length text → length tokens ≤ 2 ^ 20
+    → Cut text tokens at → GoesOn text at → Answered text
 answer_test text tokens at true e h few c on = answer_at text tokens at (stands text tokens at) refl (ltb-true at (length text) e) few c on
 answer_test text tokens at false e h few c on =
     let end : at ≡ length text = at_end at (length text) e h in
     inl (tokens, subst (Cut text tokens) end c)
 
-answer_from : (fuel : ℕ) (text : List ℕ) (tokens : List Token) (at : ℕ) → length text ≤ at + fuel → at ≤ length text → length tokens ≤ 2 ^ 20 → Cut text tokens at → Answered text
+answer_from : (fuel : ℕ) (text : List ℕ) (tokens : List Token) (at : ℕ) → length text ≤ at + fuel → at ≤ length text → length tokens ≤ 2 ^ 20
+    → Cut text tokens at → Answered text
 answer_from zero text tokens at f h few c = inl (tokens, subst (Cut text tokens) (omega arith) c)
 answer_from (suc fuel) text tokens at f h few c =
-    answer_test text tokens at (nat_lt at (length text)) refl h few c (λ more' to less within few' c'. answer_from fuel text more' to (omega arith) within few' c')
+    answer_test text tokens at (nat_lt at (length text)) refl h few c (λ more' to less within few' c'.
+    answer_from fuel text more' to (omega arith) within few' c')
 
 -- a text is cut whole, or has an error
 pub tokens_or_error : TokensOrError

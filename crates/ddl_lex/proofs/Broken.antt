@@ -1,5 +1,6 @@
 -- What is wrong inside a literal, as it is read.
-use Rattle.std.proofs.Common.{◌≡◌, ◌≢◌, ◌<◌, ◌≤◌, ℕ, zero, suc, ◌+◌, ◌==◌, ◌&&◌, ◌||◌, Bool, true, false, List, [], ◌∷◌, ◌++◌, length, take, drop, get_or, Some, Result, Ok, Err, refl, ap, sym, subst, ◌∙◌, append_assoc, length-append, length-drop, arith, if◌then◌else◌}
+use Rattle.std.proofs.Common.{◌≡◌, ◌≢◌, ◌<◌, ◌≤◌, ℕ, zero, suc, ◌+◌, ◌==◌, ◌&&◌, ◌||◌, Bool, true, false, List, [], ◌∷◌, ◌++◌, length, take, drop, get_or, Some}
+use Rattle.std.proofs.Common.{Result, Ok, Err, refl, ap, sym, subst, ◌∙◌, append_assoc, length-append, length-drop, arith, if◌then◌else◌}
 use Rattle.std.proofs.lemmas.List.{take-append-drop}
 use Rattle.ddl_token.specs.declared.token.Tok.TheVariants as t
 use Rattle.ddl_lex.specs.declared.error.LexError.{LexError}
@@ -10,7 +11,8 @@ use Rattle.ddl_lex.specs.Letters.{is_control, is_hexadecimal}
 use Rattle.ddl_lex.specs.Literals as r
 use Rattle.ddl_lex.specs.Literals.{literal, element, hexadecimal_escape, read, bytes_behind, character, character_of}
 use Rattle.ddl_lex.specs.Elements.{IsEscape, IsElement, escape, plain, AreElements, none, one_more}
-use Rattle.ddl_lex.specs.Wrong.{LineEnds, AtControl, AtNoEscape, IsBroken, line_ends, at_control, at_no_escape, NoQuote, IsWrong, broken_character, no_byte, open_character}
+use Rattle.ddl_lex.specs.Wrong.{LineEnds, AtControl, AtNoEscape, IsBroken, line_ends, at_control, at_no_escape, NoQuote, IsWrong, broken_character, no_byte}
+use Rattle.ddl_lex.specs.Wrong.{open_character}
 use Rattle.ddl_lex.proofs.Contents.{Taken, by_test, closing, element_taken, element_read, escape_read, elements_read}
 use Rattle.ddl_lex.proofs.Elements.{one_element, behind}
 use Rattle.ddl_lex.proofs.Longest.{Found, by_test as found_test}
@@ -45,7 +47,8 @@ hexadecimal_kind (h ∷ l ∷ bs) = by (is_hexadecimal h && is_hexadecimal l) _ 
 
 escape_kind : (text : List ℕ) → Escaped (r.escape text)
 escape_kind [] = tt
-escape_kind (b ∷ bs) = by (b == 110) _ _ tt (by (b == 116) _ _ tt (by (b == 114) _ _ tt (by (b == 92 || b == 34 || b == 39) _ _ tt (by (b == 120) _ _ (hexadecimal_kind bs) tt))))
+escape_kind (b ∷ bs) = by (b == 110) _ _ tt (by (b == 116) _ _ tt
+    (by (b == 114) _ _ tt (by (b == 92 || b == 34 || b == 39) _ _ tt (by (b == 120) _ _ (hexadecimal_kind bs) tt))))
 
 no_kind : (text : List ℕ) (x : Element) → (Escaped x → ⊥) → r.escape text ≡ x → ⊥
 no_kind text x n e = n (subst Escaped e (escape_kind text))
@@ -84,7 +87,8 @@ control_there quote (b ∷ bs) e = control_byte quote b bs e
 
 no_escape_by : (quote value n : ℕ) (text : List ℕ) → quote ≢ 92 → element quote text ≡ NoEscape → IsEscape value (take n text) → ⊥
 no_escape_by quote value n text q e i =
-    let there : element quote text ≡ Means value (length (take n text)) = ap (element quote) (sym (take-append-drop n text)) ∙ escape_read quote value (drop n text) (take n text) q i in
+    let there : element quote text ≡ Means value (length (take n text)) = ap (element quote) (sym (take-append-drop n text))
+    ∙ escape_read quote value (drop n text) (take n text) q i in
     let wrong : NoEscape ≡ Means value (length (take n text)) = sym e ∙ there in cc
 
 pub no_escape_there : (quote : ℕ) (text : List ℕ) → quote ≢ 92 → element quote text ≡ NoEscape → AtNoEscape text
@@ -96,7 +100,8 @@ no_escape_there quote (b ∷ bs) q e = (backslash_byte quote b bs e, λ value n 
 pub line_end_read : (quote : ℕ) (text : List ℕ) → IsQuote quote → LineEnds text → element quote text ≡ Ends
 line_end_read quote [] q h = refl
 line_end_read quote (b ∷ bs) q h =
-    let other : b ≢ quote = λ e. (let x : is_control b ≡ false = subst (λ z. is_control z ≡ false) (sym e) q.0 in let y : is_control b ≡ true = ap is_control h in cc) in
+    let other : b ≢ quote = λ e. (let x : is_control b ≡ false = subst (λ z. is_control z ≡ false) (sym e) q.0 in let y : is_control b ≡ true =
+    ap is_control h in cc) in
     let newline : (b == 10) ≡ true = ap (λ z. z == 10) h in
     rw (no_equal b quote other, newline) refl
 
@@ -116,7 +121,8 @@ first_taken b zero bs h = absurd (omega arith)
 first_taken b (suc k) bs h = refl
 
 no_escape_at : (quote b : ℕ) (bs : List ℕ) (x : Element) → element quote (b ∷ bs) ≡ x → IsQuote quote → AtNoEscape (b ∷ bs) → x ≡ NoEscape
-no_escape_at quote b bs (Means v k) e q h = let t = element_taken quote v k (b ∷ bs) e in absurd (h.1 v k (is_escape quote v (take k (b ∷ bs)) t.0 (first_taken b k bs t.1 ∙ h.0)))
+no_escape_at quote b bs (Means v k) e q h = let t = element_taken quote v k (b ∷ bs) e
+    in absurd (h.1 v k (is_escape quote v (take k (b ∷ bs)) t.0 (first_taken b k bs t.1 ∙ h.0)))
 no_escape_at quote b bs Closes e q h = absurd (q.1 (sym (equal_of b quote (closing quote b bs e)) ∙ h.0))
 no_escape_at quote b bs Ends e q h = absurd (let x = ends_byte quote b bs e in omega (arith, h.0))
 no_escape_at quote b bs Control e q h = absurd (let x = (control_byte quote b bs e).0 in let y : is_control b ≡ false = ap is_control h.0 in cc)
@@ -131,14 +137,16 @@ no_escape_read quote (b ∷ bs) q h = no_escape_at quote b bs (element quote (b 
 -- some elements, and what is wrong behind them
 abbrev pub BrokenBehind : ℕ → ℕ → ℕ → List ℕ → LexError → Type 0
 BrokenBehind quote start at text e =
-    (means : List ℕ) × (inside : List ℕ) × (behind : List ℕ) × (text ≡ inside ++ behind) × AreElements quote means inside × IsBroken start (at + length inside) behind e
+    (means : List ℕ) × (inside : List ℕ) × (behind : List ℕ) × (text ≡ inside ++ behind) × AreElements quote means inside
+    × IsBroken start (at + length inside) behind e
 
 broken_here : (quote start at : ℕ) (text : List ℕ) (e f : LexError) → e ≡ f → IsBroken start at text e → BrokenBehind quote start at text f
 broken_here quote start at text e f same b =
     let place : at ≡ at + 0 = omega arith in
     ([], [], text, refl, none, subst (λ z. IsBroken start z text f) place (subst (IsBroken start at text) same b))
 
-one_before : (quote start at v k : ℕ) (text : List ℕ) (e : LexError) → Taken quote v k text → BrokenBehind quote start (at + k) (drop k text) e → BrokenBehind quote start at text e
+one_before : (quote start at v k : ℕ) (text : List ℕ) (e : LexError) → Taken quote v k text → BrokenBehind quote start (at + k) (drop k text) e
+    → BrokenBehind quote start at text e
 one_before quote start at v k text e t b =
     let front = take k text in
     let same : text ≡ (front ++ b.1) ++ b.2 = sym (take-append-drop k text) ∙ ap (λ z. front ++ z) b.3 ∙ sym (append_assoc front b.1 b.2) in
@@ -149,8 +157,10 @@ behind_error : (means : List ℕ) (n : ℕ) (x : Read) (e : LexError) → behind
 behind_error means n (Err f) e h = h
 behind_error means n (Ok z) e h = cc
 
-broken_by : (quote s a b : ℕ) (bs : List ℕ) (e : LexError) (x : Element) → quote ≢ 92 → element quote (b ∷ bs) ≡ x → read s a x (literal quote s (a + 1) (bytes_behind x) bs) ≡ Err e →
-    ((text : List ℕ) (a' : ℕ) → length text ≤ length bs → literal quote s a' 0 text ≡ Err e → BrokenBehind quote s a' text e) → BrokenBehind quote s a (b ∷ bs) e
+broken_by : (quote s a b : ℕ) (bs : List ℕ) (e : LexError) (x : Element) → quote ≢ 92 → element quote (b ∷ bs) ≡ x
+    → read s a x (literal quote s (a + 1) (bytes_behind x) bs) ≡ Err e →
+    ((text : List ℕ) (a' : ℕ) → length text ≤ length bs → literal quote s a' 0 text ≡ Err e → BrokenBehind quote s a' text e)
+    → BrokenBehind quote s a (b ∷ bs) e
 broken_by quote s a b bs e (Means v k) q el h on =
     let text = b ∷ bs in
     let t = element_taken quote v k text el in
@@ -163,7 +173,8 @@ broken_by quote s a b bs e Ends q el h on = broken_here quote s a (b ∷ bs) (Op
 broken_by quote s a b bs e Control q el h on = broken_here quote s a (b ∷ bs) (BadByte a) e (cc) (at_control (control_there quote (b ∷ bs) el))
 broken_by quote s a b bs e NoEscape q el h on = broken_here quote s a (b ∷ bs) (BadEscape a) e (cc) (at_no_escape (no_escape_there quote (b ∷ bs) q el))
 
-broken_from : (fuel quote s a : ℕ) (text : List ℕ) (e : LexError) → quote ≢ 92 → length text ≤ fuel → literal quote s a 0 text ≡ Err e → BrokenBehind quote s a text e
+broken_from : (fuel quote s a : ℕ) (text : List ℕ) (e : LexError) → quote ≢ 92 → length text ≤ fuel → literal quote s a 0 text ≡ Err e
+    → BrokenBehind quote s a text e
 broken_from fuel quote s a [] e q f h = broken_here quote s a [] (OpenText s) e (cc) (line_ends tt)
 broken_from zero quote s a (b ∷ bs) e q f h = absurd (omega arith)
 broken_from (suc fuel) quote s a (b ∷ bs) e q f h =
@@ -173,17 +184,22 @@ broken_from (suc fuel) quote s a (b ∷ bs) e q f h =
 pub text_broken : (quote s a : ℕ) (text : List ℕ) (e : LexError) → quote ≢ 92 → literal quote s a 0 text ≡ Err e → BrokenBehind quote s a text e
 text_broken quote s a text e q h = broken_from (length text) quote s a text e q (omega arith) h
 
-read_wrong : (quote s a : ℕ) (text : List ℕ) (x : Element) (e : LexError) → element quote text ≡ x → ((r : Read) → read s a x r ≡ Err e) → (text ≡ [] → e ≡ OpenText s) → literal quote s a 0 text ≡ Err e
+read_wrong : (quote s a : ℕ) (text : List ℕ) (x : Element) (e : LexError) → element quote text ≡ x → ((r : Read) → read s a x r ≡ Err e)
+    → (text ≡ [] → e ≡ OpenText s) → literal quote s a 0 text ≡ Err e
 read_wrong quote s a [] x e el h n = ap Err (sym (n refl))
-read_wrong quote s a (b ∷ bs) x e el h n = subst (λ z. read s a z (literal quote s (a + 1) (bytes_behind z) bs) ≡ Err e) (sym el) (h (literal quote s (a + 1) (bytes_behind x) bs))
+read_wrong quote s a (b ∷ bs) x e el h n = subst (λ z. read s a z (literal quote s (a + 1) (bytes_behind z) bs) ≡ Err e) (sym el)
+    (h (literal quote s (a + 1) (bytes_behind x) bs))
 
 broken_read : (quote s a : ℕ) (text : List ℕ) (e : LexError) → IsQuote quote → IsBroken s a text e → literal quote s a 0 text ≡ Err e
 broken_read quote s a text e q (line_ends h) = read_wrong quote s a text Ends (OpenText s) (line_end_read quote text q h) (λ x. refl) (λ n. refl)
-broken_read quote s a text e q (at_control h) = read_wrong quote s a text Control (BadByte a) (control_read quote text q h) (λ x. refl) (λ n. absurd (subst AtControl n h))
-broken_read quote s a text e q (at_no_escape h) = read_wrong quote s a text NoEscape (BadEscape a) (no_escape_read quote text q h) (λ x. refl) (λ n. absurd (subst AtNoEscape n h))
+broken_read quote s a text e q (at_control h) = read_wrong quote s a text Control (BadByte a) (control_read quote text q h) (λ x. refl) (λ n.
+    absurd (subst AtControl n h))
+broken_read quote s a text e q (at_no_escape h) = read_wrong quote s a text NoEscape (BadEscape a) (no_escape_read quote text q h) (λ x. refl) (λ n.
+    absurd (subst AtNoEscape n h))
 
 -- what is broken behind some elements cannot be read
-pub broken_behind_read : (quote s a : ℕ) (means inside rest : List ℕ) (e : LexError) → IsQuote quote → AreElements quote means inside → IsBroken s (a + length inside) rest e → literal quote s a 0 (inside ++ rest) ≡ Err e
+pub broken_behind_read : (quote s a : ℕ) (means inside rest : List ℕ) (e : LexError) → IsQuote quote → AreElements quote means inside
+    → IsBroken s (a + length inside) rest e → literal quote s a 0 (inside ++ rest) ≡ Err e
 broken_behind_read quote s a means inside rest e q m b =
     elements_read quote s a rest means inside q.1 m ∙ ap (behind means (length inside)) (broken_read quote s (a + length inside) rest e q b)
 
@@ -214,8 +230,10 @@ character_by at b bs e (Means v n) u el h =
     wrong_as at (b ∷ bs) (OpenText at) e (cc) (open_character v (take n bs) (drop n bs) same k.0 (no_quote bs n c))))
 character_by at b bs e Closes u el h = wrong_as at (b ∷ bs) (OpenText at) e (cc) (closing_there at b bs u el)
 character_by at b bs e Ends u el h = wrong_as at (b ∷ bs) (OpenText at) e (cc) (broken_character bs (ap (λ z. z ∷ bs) u) (line_ends (ends_there 39 bs el)))
-character_by at b bs e Control u el h = wrong_as at (b ∷ bs) (BadByte (at + 1)) e (cc) (broken_character bs (ap (λ z. z ∷ bs) u) (at_control (control_there 39 bs el)))
-character_by at b bs e NoEscape u el h = wrong_as at (b ∷ bs) (BadEscape (at + 1)) e (cc) (broken_character bs (ap (λ z. z ∷ bs) u) (at_no_escape (no_escape_there 39 bs (λ z. (omega arith)) el)))
+character_by at b bs e Control u el h = wrong_as at (b ∷ bs) (BadByte (at + 1)) e (cc)
+    (broken_character bs (ap (λ z. z ∷ bs) u) (at_control (control_there 39 bs el)))
+character_by at b bs e NoEscape u el h = wrong_as at (b ∷ bs) (BadEscape (at + 1)) e (cc)
+    (broken_character bs (ap (λ z. z ∷ bs) u) (at_no_escape (no_escape_there 39 bs (λ z. (omega arith)) el)))
 
 pub character_broken : (at b : ℕ) (bs : List ℕ) (e : LexError) → b ≡ 39 → character at bs ≡ Err e → IsWrong at (b ∷ bs) e
 character_broken at b bs e u h = character_by at b bs e (element 39 bs) u refl h

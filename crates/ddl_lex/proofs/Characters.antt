@@ -1,5 +1,6 @@
 -- A character is read where its quotes mean one byte.
-use Rattle.std.proofs.Common.{◌≡◌, ◌<◌, ◌≤◌, ℕ, suc, ◌+◌, ◌-◌, ◌==◌, true, List, [], ◌∷◌, length, drop, get_or, Option, Some, Result, Ok, Err, refl, ap, sym, subst, ◌∙◌, arith, if◌then◌else◌}
+use Rattle.std.proofs.Common.{◌≡◌, ◌<◌, ◌≤◌, ℕ, suc, ◌+◌, ◌-◌, ◌==◌, true, List, [], ◌∷◌, length, drop, get_or, Option, Some, Result, Ok, Err, refl, ap, sym}
+use Rattle.std.proofs.Common.{subst, ◌∙◌, arith, if◌then◌else◌}
 use Rattle.std.proofs.Math.Seq.{drop-cons}
 use Rattle.ddl_token.specs.declared.token.Tok.{Tok}
 use Rattle.ddl_token.specs.declared.token.Tok.TheVariants as t
@@ -31,7 +32,8 @@ nothing_by quote s a b bs n NoEscape x el h = cc
 -- what means nothing begins with the closing quote
 nothing : (quote s a : ℕ) (text : List ℕ) (n : ℕ) → literal quote s a 0 text ≡ Ok ([], n) → (get_or text 0 0 == quote) ≡ true
 nothing quote s a [] n h = cc
-nothing quote s a (b ∷ bs) n h = nothing_by quote s a b bs n (element quote (b ∷ bs)) (literal quote s (a + 1) (bytes_behind (element quote (b ∷ bs))) bs) refl h
+nothing quote s a (b ∷ bs) n h = nothing_by quote s a b bs n (element quote (b ∷ bs)) (literal quote s (a + 1) (bytes_behind (element quote (b ∷ bs))) bs) refl
+    h
 
 -- behind one byte there is nothing
 one_behind : (v x j n : ℕ) (r : Read) → behind (v ∷ []) j r ≡ Ok (x ∷ [], n) → (m : ℕ) × (r ≡ Ok ([], m))
@@ -65,7 +67,8 @@ right_by start b x n bs e (Means v j) is r h =
     let rest = one_behind v x j n (literal 39 0 (1 + j) 0 (drop j text)) (sym one ∙ whole) in
     let quote = nothing 39 0 (1 + j) (drop j text) rest.0 rest.1 in
     quote_right start v j text e (subst (λ z. (z == 39) ≡ true) (at_front text j (omega arith)) quote) h
-right_by start b x n bs e Closes is r h = let pair : List ℕ × ℕ = ([], 1) in let want : List ℕ × ℕ = (x ∷ [], n) in let same : pair ≡ want = cc in let none : [] ≡ x ∷ [] = ap (λ z. z.0) same in cc
+right_by start b x n bs e Closes is r h = let pair : List ℕ × ℕ = ([], 1) in let want : List ℕ × ℕ = (x ∷ [], n) in let same : pair ≡ want =
+    cc in let none : [] ≡ x ∷ [] = ap (λ z. z.0) same in cc
 right_by start b x n bs e Ends is r h = cc
 right_by start b x n bs e Control is r h = cc
 right_by start b x n bs e NoEscape is r h = cc

@@ -1,5 +1,6 @@
 -- Comments: that which is found is the longest form.
-use Rattle.std.proofs.Common.{◌≡◌, ◌≤◌, ℕ, zero, suc, ◌+◌, ◌||◌, Bool, true, false, List, [], ◌∷◌, length, take, Option, Some, None, inl, inr, refl, ap, sym, subst, ◌∙◌, arith, if◌then◌else◌}
+use Rattle.std.proofs.Common.{◌≡◌, ◌≤◌, ℕ, zero, suc, ◌+◌, ◌||◌, Bool, true, false, List, [], ◌∷◌, length, take, Option, Some, None, inl, inr, refl, ap, sym}
+use Rattle.std.proofs.Common.{subst, ◌∙◌, arith, if◌then◌else◌}
 use Rattle.ddl_token.specs.declared.token.Tok.{Tok}
 use Rattle.ddl_token.specs.declared.token.Tok.TheVariants as t
 use Rattle.ddl_lex.specs.Letters.{in_line, run}
@@ -12,7 +13,8 @@ use Rattle.ddl_lex.proofs.Nested.{comment_counted, counted_comment}
 use Rattle.ddl_lex.proofs.Firsts.{class_of, Begins, begins, small_class}
 
 -- more text does not move the end of a comment
-more_by : (v : Bool) (x y : Option ℕ) (n : ℕ) → ((m : ℕ) → x ≡ Some m → y ≡ Some m) → (if v then Some 1 else one_more x) ≡ Some n → (if v then Some 1 else one_more y) ≡ Some n
+more_by : (v : Bool) (x y : Option ℕ) (n : ℕ) → ((m : ℕ) → x ≡ Some m → y ≡ Some m) → (if v then Some 1 else one_more x) ≡ Some n
+    → (if v then Some 1 else one_more y) ≡ Some n
 more_by true x y n h e = e
 more_by false None y n h e = cc
 more_by false (Some m) y n h e = let f : y ≡ Some m = h m refl in ap one_more f ∙ e
@@ -31,7 +33,8 @@ comment_more (suc depth) before (b ∷ bs) zero n e = cc
 comment_more zero before (b ∷ bs) (suc k) n e =
     more_by (ends before b) _ _ n (λ m f. comment_more (if opens before b then 1 else 0) (if opens before b then 0 else b) bs k m f) e
 comment_more (suc depth) before (b ∷ bs) (suc k) n e =
-    one_more_by _ _ n (λ m f. comment_more (if opens before b then suc (suc depth) else (if ends before b then depth else suc depth)) (if opens before b || ends before b then 0 else b) bs k m f) e
+    one_more_by _ _ n (λ m f. comment_more (if opens before b then suc (suc depth) else (if ends before b then depth else suc depth))
+    (if opens before b || ends before b then 0 else b) bs k m f) e
 
 -- a comment ends within the text, and what is behind does not matter
 abbrev Ends : ℕ → ℕ → List ℕ → ℕ → Type 0
@@ -45,7 +48,8 @@ ends_at : (depth before : ℕ) (bs : List ℕ) (n : ℕ) (o : Option ℕ) → co
 ends_at depth before bs n None c h e = cc
 ends_at depth before bs n (Some m) c h e = let x = h m c in (m, (let y : n ≡ suc m = cc in y), x.0, ap one_more x.1 ∙ e)
 
-ends_by : (v : Bool) (depth before : ℕ) (bs : List ℕ) (n : ℕ) → EndsBehind depth before bs → (if v then Some 1 else one_more (comment depth before bs)) ≡ Some n →
+ends_by : (v : Bool) (depth before : ℕ) (bs : List ℕ) (n : ℕ) → EndsBehind depth before bs → (if v then Some 1 else one_more (comment depth before bs)) ≡ Some n
+    →
     (m : ℕ) × (n ≡ suc m) × (m ≤ length bs) × ((if v then Some 1 else one_more (comment depth before (take m bs))) ≡ Some n)
 ends_by true depth before bs n h e = (0, (let x : n ≡ 1 = cc in x), omega arith, e)
 ends_by false depth before bs n h e = ends_at depth before bs n (comment depth before bs) refl h e
@@ -70,7 +74,8 @@ comment_ends (suc depth) before (b ∷ bs) n e =
 
 -- ---- a comment that nests
 
-at_comment : (b d : ℕ) (bs : List ℕ) (n c : ℕ) → class_of b ≡ c → c ≡ 5 → b ≡ 123 → comment 0 0 bs ≡ Some n → (q : Option Tok) (k : ℕ) → k ≤ suc (length bs) → IsForm q (b ∷ take k (d ∷ bs)) → Begins q c → suc k ≤ n + 2
+at_comment : (b d : ℕ) (bs : List ℕ) (n c : ℕ) → class_of b ≡ c → c ≡ 5 → b ≡ 123 → comment 0 0 bs ≡ Some n → (q : Option Tok) (k : ℕ) → k ≤ suc (length bs)
+    → IsForm q (b ∷ take k (d ∷ bs)) → Begins q c → suc k ≤ n + 2
 at_comment b d bs n c s e u i None k h (inl w) g = omega (arith, white_length b (d ∷ bs) k h w)
 at_comment b d bs n c s e u i None k h (inr (inl l)) g = absurd (omega (arith, line_byte b (take k (d ∷ bs)) l))
 at_comment b d bs n c s e u i None zero h (inr (inr l)) g = absurd l
@@ -107,7 +112,8 @@ line_all [] l = absurd l
 line_all (b ∷ []) l = absurd l
 line_all (b ∷ c ∷ bs) l = (ap in_line l.0, (ap in_line l.1, l.2))
 
-at_line : (b : ℕ) (bs : List ℕ) (c : ℕ) → class_of b ≡ c → c ≡ 5 → b ≡ 45 → 2 ≤ run in_line (b ∷ bs) → (q : Option Tok) (k : ℕ) → k ≤ length bs → IsForm q (b ∷ take k bs) → Begins q c → suc k ≤ run in_line (b ∷ bs)
+at_line : (b : ℕ) (bs : List ℕ) (c : ℕ) → class_of b ≡ c → c ≡ 5 → b ≡ 45 → 2 ≤ run in_line (b ∷ bs) → (q : Option Tok) (k : ℕ) → k ≤ length bs
+    → IsForm q (b ∷ take k bs) → Begins q c → suc k ≤ run in_line (b ∷ bs)
 at_line b bs c s e u r None k h (inl w) g = omega (arith, white_length b bs k h w)
 at_line b bs c s e u r None k h (inr (inl l)) g = run_most in_line (b ∷ bs) (suc k) (omega arith) (line_all (b ∷ take k bs) l)
 at_line b bs c s e u r None k h (inr (inr l)) g = absurd (omega (arith, comment_byte b (take k bs) l))
@@ -130,5 +136,9 @@ line_longest b d bs u v =
     let bi : in_line b ≡ true = ap in_line u in
     let di : in_line d ≡ true = ap in_line v in
     let n : run in_line (b ∷ d ∷ bs) ≡ suc (suc (run in_line bs)) = rw (bi, di) refl in
-    let form : IsLineComment (b ∷ d ∷ take (run in_line bs) bs) = (u, v, run_passes in_line bs) in
-    (run_within in_line (b ∷ d ∷ bs), omega (arith, n), subst (λ z. IsForm None (take z (b ∷ d ∷ bs))) (sym n) (inr (inl form)), line_no_longer b (d ∷ bs) u (omega (arith, n)))
+    let form : IsLineComment (b ∷ d ∷ take (run in_line bs) bs) = (u, v, run_passes in_line bs) in (
+      run_within in_line (b ∷ d ∷ bs),
+      omega (arith, n),
+      subst (λ z. IsForm None (take z (b ∷ d ∷ bs))) (sym n) (inr (inl form)),
+      line_no_longer b (d ∷ bs) u (omega (arith, n)),
+    )

@@ -1,5 +1,6 @@
 -- What is read between two quotes is the elements there.
-use Rattle.std.proofs.Common.{◌≡◌, ◌≢◌, ◌<◌, ◌≤◌, ℕ, zero, suc, ◌+◌, ◌*◌, ◌==◌, ◌&&◌, ◌||◌, Bool, true, false, List, [], ◌∷◌, ◌++◌, length, take, drop, get_or, Result, Ok, Err, inl, inr, refl, ap, sym, subst, ◌∙◌, append_assoc, append-nil, length-append, length-drop, arith, if◌then◌else◌}
+use Rattle.std.proofs.Common.{◌≡◌, ◌≢◌, ◌<◌, ◌≤◌, ℕ, zero, suc, ◌+◌, ◌*◌, ◌==◌, ◌&&◌, ◌||◌, Bool, true, false, List, [], ◌∷◌, ◌++◌, length, take, drop, get_or}
+use Rattle.std.proofs.Common.{Result, Ok, Err, inl, inr, refl, ap, sym, subst, ◌∙◌, append_assoc, append-nil, length-append, length-drop, arith, if◌then◌else◌}
 use Rattle.std.proofs.lemmas.Bool.{eq-eqb}
 use Rattle.std.proofs.lemmas.Bool.Decides.{nat_tests}
 use Rattle.std.proofs.lemmas.List.{take-append-drop}
@@ -10,7 +11,8 @@ use Rattle.ddl_lex.specs.declared.literal.Element.TheVariants.{Means, Closes, En
 use Rattle.ddl_lex.specs.Letters.{is_control, is_hexadecimal, digit_value}
 use Rattle.ddl_lex.specs.Literals as r
 use Rattle.ddl_lex.specs.Literals.{literal, element, hexadecimal_escape, read, bytes_behind}
-use Rattle.ddl_lex.specs.Elements.{IsEscape, newline, tab, return, backslash, double_quote, single_quote, hexadecimal, IsElement, escape, plain, AreElements, none, one_more, IsLiteral}
+use Rattle.ddl_lex.specs.Elements.{IsEscape, newline, tab, return, backslash, double_quote, single_quote, hexadecimal, IsElement, escape, plain, AreElements}
+use Rattle.ddl_lex.specs.Elements.{none, one_more, IsLiteral}
 use Rattle.ddl_lex.proofs.Elements.{one_element, behind, behind_none, behind_twice}
 use Rattle.ddl_lex.proofs.Lengths.{taken}
 use Rattle.ddl_lex.proofs.Decided.{either, both, equal_of, not_equal, no_equal}
@@ -32,7 +34,8 @@ escape_read quote value rest bytes n double_quote = rw (no_equal 92 quote (λ e.
 escape_read quote value rest bytes n single_quote = rw (no_equal 92 quote (λ e. n (sym e))) refl
 escape_read quote value rest bytes n (hexadecimal high low h l) = rw (no_equal 92 quote (λ e. n (sym e)), h, l) refl
 
-pub element_read : (quote value : ℕ) (rest bytes : List ℕ) → quote ≢ 92 → IsElement quote value bytes → element quote (bytes ++ rest) ≡ Means value (length bytes)
+pub element_read : (quote value : ℕ) (rest bytes : List ℕ) → quote ≢ 92 → IsElement quote value bytes
+    → element quote (bytes ++ rest) ≡ Means value (length bytes)
 element_read quote value rest bytes n (escape e) = escape_read quote value rest bytes n e
 element_read quote value rest bytes n (plain b q s c) = rw (no_equal b quote q, no_newline b c, no_equal b 92 s, c) refl
 
@@ -49,7 +52,8 @@ pub element_some : (quote value : ℕ) (bytes : List ℕ) → IsElement quote va
 element_some quote value bytes (escape e) = escape_some value bytes e
 element_some quote value bytes (plain b q s c) = omega arith
 
-one_read : (quote s a value : ℕ) (rest bytes means inside : List ℕ) → element quote (bytes ++ (inside ++ rest)) ≡ Means value (length bytes) → 0 < length bytes →
+one_read : (quote s a value : ℕ) (rest bytes means inside : List ℕ) → element quote (bytes ++ (inside ++ rest)) ≡ Means value (length bytes) → 0 < length bytes
+    →
     literal quote s (a + length bytes) 0 (inside ++ rest) ≡ behind means (length inside) (literal quote s (a + length bytes + length inside) 0 rest) →
     literal quote s a 0 ((bytes ++ inside) ++ rest) ≡ behind (value ∷ means) (length (bytes ++ inside)) (literal quote s (a + length (bytes ++ inside)) 0 rest)
 one_read quote s a value rest bytes means inside e some more =
@@ -58,24 +62,30 @@ one_read quote s a value rest bytes means inside e some more =
     let m = length inside in
     let within : n ≤ length text = rw (length-append bytes (inside ++ rest)) (omega arith) in
     let one = one_element quote s a value n text e some within in
-    let there : literal quote s (a + n) 0 (drop n text) ≡ behind means m (literal quote s (a + n + m) 0 rest) = ap (literal quote s (a + n) 0) (drop-append_seam bytes (inside ++ rest)) ∙ more in
+    let there : literal quote s (a + n) 0 (drop n text) ≡ behind means m (literal quote s (a + n + m) 0 rest) =
+    ap (literal quote s (a + n) 0) (drop-append_seam bytes (inside ++ rest)) ∙ more in
     let len : length (bytes ++ inside) ≡ n + m = length-append bytes inside in
     let place : a + length (bytes ++ inside) ≡ a + n + m = omega (arith, len) in
-    ap (literal quote s a 0) (append_assoc bytes inside rest) ∙ one ∙ ap (behind (value ∷ []) n) there ∙ behind_twice (value ∷ []) means n m (literal quote s (a + n + m) 0 rest)
-    ∙ ap (λ z. behind (value ∷ means) z (literal quote s (a + n + m) 0 rest)) (sym len) ∙ ap (λ z. behind (value ∷ means) (length (bytes ++ inside)) (literal quote s z 0 rest)) (sym place)
+    ap (literal quote s a 0) (append_assoc bytes inside rest) ∙ one ∙ ap (behind (value ∷ []) n) there
+    ∙ behind_twice (value ∷ []) means n m (literal quote s (a + n + m) 0 rest)
+    ∙ ap (λ z. behind (value ∷ means) z (literal quote s (a + n + m) 0 rest)) (sym len)
+    ∙ ap (λ z. behind (value ∷ means) (length (bytes ++ inside)) (literal quote s z 0 rest)) (sym place)
 
 -- the elements in front of more are read, and then what is behind
 pub elements_read : (quote s a : ℕ) (rest means inside : List ℕ) → quote ≢ 92 → AreElements quote means inside →
     literal quote s a 0 (inside ++ rest) ≡ behind means (length inside) (literal quote s (a + length inside) 0 rest)
-elements_read quote s a rest means inside n none = let e : a + 0 ≡ a = omega arith in behind_none (literal quote s a 0 rest) ∙ ap (λ z. behind [] 0 (literal quote s z 0 rest)) (sym e)
+elements_read quote s a rest means inside n none = let e : a + 0 ≡ a = omega arith in behind_none (literal quote s a 0 rest)
+    ∙ ap (λ z. behind [] 0 (literal quote s z 0 rest)) (sym e)
 elements_read quote s a rest means inside n (one_more {bytes = bytes} {means = others} {others = after} value e more) =
-    one_read quote s a value rest bytes others after (element_read quote value (after ++ rest) bytes n e) (element_some quote value bytes e) (elements_read quote s (a + length bytes) rest others after n more)
+    one_read quote s a value rest bytes others after (element_read quote value (after ++ rest) bytes n e) (element_some quote value bytes e)
+    (elements_read quote s (a + length bytes) rest others after n more)
 
 -- the closing quote
 pub quote_read : (quote s a : ℕ) (rest : List ℕ) → literal quote s a 0 (quote ∷ rest) ≡ Ok ([], 1)
 quote_read quote s a rest = rw (eq-eqb quote quote refl) refl
 
-pub closed_read : (quote s a : ℕ) (rest means inside : List ℕ) → quote ≢ 92 → AreElements quote means inside → literal quote s a 0 (inside ++ quote ∷ rest) ≡ Ok (means, suc (length inside))
+pub closed_read : (quote s a : ℕ) (rest means inside : List ℕ) → quote ≢ 92 → AreElements quote means inside
+    → literal quote s a 0 (inside ++ quote ∷ rest) ≡ Ok (means, suc (length inside))
 closed_read quote s a rest means inside n e =
     let len : length inside + 1 ≡ suc (length inside) = omega arith in
     elements_read quote s a (quote ∷ rest) means inside n e ∙ ap (behind means (length inside)) (quote_read quote s (a + length inside) rest)
@@ -94,10 +104,12 @@ hexadecimal_open (x ∷ y ∷ bs) e = not_closes (is_hexadecimal x && is_hexadec
 
 escape_open : (text : List ℕ) → r.escape text ≡ Closes → ⊥
 escape_open [] e = cc
-escape_open (b ∷ bs) e = not_closes (b == 110) _ _ (λ z. (cc)) (not_closes (b == 116) _ _ (λ z. (cc)) (not_closes (b == 114) _ _ (λ z. (cc)) (not_closes (b == 92 || b == 34 || b == 39) _ _ (λ z. (cc))
+escape_open (b ∷ bs) e = not_closes (b == 110) _ _ (λ z.
+    (cc)) (not_closes (b == 116) _ _ (λ z. (cc)) (not_closes (b == 114) _ _ (λ z. (cc)) (not_closes (b == 92 || b == 34 || b == 39) _ _ (λ z. (cc))
     (not_closes (b == 120) _ _ (hexadecimal_open bs) (λ z. (cc)))))) e
 
-pub behind_open : (b : ℕ) (bs : List ℕ) → (if b == 10 then Ends else (if b == 92 then r.escape bs else (if is_control b then Control else Means b 1))) ≡ Closes → ⊥
+pub behind_open : (b : ℕ) (bs : List ℕ) → (if b == 10 then Ends else (if b == 92 then r.escape bs else (if is_control b then Control else Means b 1))) ≡ Closes
+    → ⊥
 behind_open b bs e = not_closes (b == 10) _ _ (λ z. (cc)) (not_closes (b == 92) _ _ (escape_open bs) (not_closes (is_control b) _ _ (λ z. (cc)) (λ z. (cc)))) e
 
 quote_by : (v : Bool) (y : Element) → (y ≡ Closes → ⊥) → (if v then Closes else y) ≡ Closes → v ≡ true
@@ -169,7 +181,8 @@ element_taken quote v k (b ∷ bs) e =
     by_test (is_control b) _ _ w G e3 (λ t f. (cc)) (λ c f.
     taken_by quote b 1 v k (b ∷ bs) f (plain b (not_equal b quote q) (not_equal b 92 s) c, omega arith, omega arith)))))
 
-behind_inside : (v k n : ℕ) (means : List ℕ) (x : Read) → behind (v ∷ []) k x ≡ Ok (means, n) → (others : List ℕ) × (m : ℕ) × (x ≡ Ok (others, m)) × (means ≡ v ∷ others) × (n ≡ k + m)
+behind_inside : (v k n : ℕ) (means : List ℕ) (x : Read) → behind (v ∷ []) k x ≡ Ok (means, n) → (others : List ℕ) × (m : ℕ) × (x ≡ Ok (others, m))
+    × (means ≡ v ∷ others) × (n ≡ k + m)
 behind_inside v k n means (Err e) h = cc
 behind_inside v k n means (Ok z) h =
     let pair : List ℕ × ℕ = (v ∷ z.0, k + z.1) in let want : List ℕ × ℕ = (means, n) in let same : pair ≡ want = cc in
@@ -179,15 +192,18 @@ behind_inside v k n means (Ok z) h =
 abbrev pub Closed : ℕ → List ℕ → ℕ → List ℕ → Type 0
 Closed quote means n text = (inside : List ℕ) × (rest : List ℕ) × (text ≡ inside ++ quote ∷ rest) × AreElements quote means inside × (n ≡ suc (length inside))
 
-one_closed : (quote v k n m : ℕ) (means others text : List ℕ) → Taken quote v k text → means ≡ v ∷ others → n ≡ k + m → Closed quote others m (drop k text) → Closed quote means n text
+one_closed : (quote v k n m : ℕ) (means others text : List ℕ) → Taken quote v k text → means ≡ v ∷ others → n ≡ k + m → Closed quote others m (drop k text)
+    → Closed quote means n text
 one_closed quote v k n m means others text t e f c =
     let front = take k text in
     let same : text ≡ (front ++ c.0) ++ quote ∷ c.1 = sym (take-append-drop k text) ∙ ap (λ z. front ++ z) c.2 ∙ sym (append_assoc front c.0 (quote ∷ c.1)) in
     let count : n ≡ suc (length (front ++ c.0)) = omega (arith, f, c.4, length-append front c.0, taken text k t.2) in
     (front ++ c.0, c.1, same, subst (λ z. AreElements quote z (front ++ c.0)) (sym e) (one_more v t.0 c.3), count)
 
-closed_by : (quote s a b : ℕ) (bs means : List ℕ) (n : ℕ) (e : Element) → element quote (b ∷ bs) ≡ e → read s a e (literal quote s (a + 1) (bytes_behind e) bs) ≡ Ok (means, n) →
-    ((text others : List ℕ) (m a' : ℕ) → length text ≤ length bs → literal quote s a' 0 text ≡ Ok (others, m) → Closed quote others m text) → Closed quote means n (b ∷ bs)
+closed_by : (quote s a b : ℕ) (bs means : List ℕ) (n : ℕ) (e : Element) → element quote (b ∷ bs) ≡ e
+    → read s a e (literal quote s (a + 1) (bytes_behind e) bs) ≡ Ok (means, n) →
+    ((text others : List ℕ) (m a' : ℕ) → length text ≤ length bs → literal quote s a' 0 text ≡ Ok (others, m) → Closed quote others m text)
+    → Closed quote means n (b ∷ bs)
 closed_by quote s a b bs means n (Means v k) el h on =
     let text = b ∷ bs in
     let t = element_taken quote v k text el in
@@ -216,7 +232,8 @@ read_closed quote s a text means n h = closed_from (length text) quote s a text 
 -- ---- literals
 
 -- a literal is read whole
-pub literal_read : (quote b : ℕ) (bs means : List ℕ) → quote ≢ 92 → IsLiteral quote means (b ∷ bs) → (b ≡ quote) × (literal quote 0 1 0 bs ≡ Ok (means, length bs))
+pub literal_read : (quote b : ℕ) (bs means : List ℕ) → quote ≢ 92 → IsLiteral quote means (b ∷ bs)
+    → (b ≡ quote) × (literal quote 0 1 0 bs ≡ Ok (means, length bs))
 literal_read quote b bs means n l =
     let first : b ≡ quote = ap (λ z. get_or z 0 0) l.1 in
     let rest : bs ≡ l.0 ++ quote ∷ [] = ap (drop 1) l.1 in

@@ -1,5 +1,6 @@
 -- A piece more is cut from the text.
-use Rattle.std.proofs.Common.{◌≡◌, ◌<◌, ◌≤◌, ◌≢◌, ◌==◌, ◌^◌, ℕ, ◌+◌, true, List, [], ◌∷◌, ◌++◌, length, drop, take, get_or, Option, Some, None, Ok, refl, subst, sym, ap, ◌∙◌, arith, length-append, length-drop, if◌then◌else◌}
+use Rattle.std.proofs.Common.{◌≡◌, ◌<◌, ◌≤◌, ◌≢◌, ◌==◌, ◌^◌, ℕ, ◌+◌, true, List, [], ◌∷◌, ◌++◌, length, drop, take, get_or, Option, Some, None, Ok, refl, subst}
+use Rattle.std.proofs.Common.{sym, ap, ◌∙◌, arith, length-append, length-drop, if◌then◌else◌}
 use Rattle.std.proofs.Math.Seq.{take-add}
 use Rattle.std.proofs.lemmas.Bool.{eq-eqb}
 use Rattle.ddl_token.specs.declared.token.Tok.{Tok}
@@ -24,14 +25,17 @@ column_behind_both column [] b = refl
 column_behind_both column (x ∷ a) b = column_behind_both (column_after column x) a b
 
 -- the line and the column behind a piece
-pub line_more : (text piece : List ℕ) (at n line line' : ℕ) → line ≡ line_at at text → piece ≡ take n (drop at text) → line' ≡ line_behind line piece → line' ≡ line_at (at + n) text
+pub line_more : (text piece : List ℕ) (at n line line' : ℕ) → line ≡ line_at at text → piece ≡ take n (drop at text) → line' ≡ line_behind line piece
+    → line' ≡ line_at (at + n) text
 line_more text piece at n line line' l p e = rw (e, l, p, take-add at n text) (sym (line_behind_both 0 (take at text) (take n (drop at text))))
 
-pub column_more : (text piece : List ℕ) (at n column column' : ℕ) → column ≡ column_at at text → piece ≡ take n (drop at text) → column' ≡ column_behind column piece → column' ≡ column_at (at + n) text
+pub column_more : (text piece : List ℕ) (at n column column' : ℕ) → column ≡ column_at at text → piece ≡ take n (drop at text)
+    → column' ≡ column_behind column piece → column' ≡ column_at (at + n) text
 column_more text piece at n column column' l p e = rw (e, l, p, take-add at n text) (sym (column_behind_both 0 (take at text) (take n (drop at text))))
 
 -- a further token is found only where there is room for it
-pub few_more : (tokens : List Token) (place : Place) (to : ℕ) (found : Option Tok) → length tokens ≤ 2 ^ 20 → (is_full tokens ≡ true → found ≡ None) → length (with_token tokens place to found) ≤ 2 ^ 20
+pub few_more : (tokens : List Token) (place : Place) (to : ℕ) (found : Option Tok) → length tokens ≤ 2 ^ 20 → (is_full tokens ≡ true → found ≡ None)
+    → length (with_token tokens place to found) ≤ 2 ^ 20
 few_more tokens place to None h room = h
 few_more tokens place to (Some tok) h room =
     let different : length tokens ≢ 2 ^ 20 = λ e. (let f : Some tok ≡ None = room (eq-eqb (length tokens) (2 ^ 20) e) in cc) in
@@ -39,7 +43,8 @@ few_more tokens place to (Some tok) h room =
 
 -- one piece more
 pub cut_more : (text rest : List ℕ) (tokens next : List Token) (place : Place) (to first n : ℕ) (found : Option Tok) →
-    Cut text tokens place.at → length tokens ≤ 2 ^ 20 → rest ≡ drop place.at text → place.line ≡ line_at place.at text → place.column ≡ column_at place.at text →
+    Cut text tokens place.at → length tokens ≤ 2 ^ 20 → rest ≡ drop place.at text → place.line ≡ line_at place.at text → place.column ≡ column_at place.at text
+    →
     0 < length rest → first ≡ get_or rest 0 0 → next_piece (is_full tokens) place.at first rest ≡ Ok (found, n) →
     to ≡ place.at + n → next ≡ with_token tokens place to found → Cut text next to
 cut_more text rest tokens next place to first n found cut few left line column some first-is there to-is next-is =

@@ -1,5 +1,6 @@
 -- The number at a place has all digits of its base that follow.
-use Rattle.std.proofs.Common.{◌≡◌, ◌<◌, ◌≤◌, ℕ, zero, suc, ◌+◌, ◌==◌, ◌&&◌, ◌^◌, nat_lt, Bool, true, false, List, [], ◌∷◌, ◌++◌, length, take, drop, Option, Some, None, Result, Ok, Err, inl, inr, refl, ap, sym, subst, ◌∙◌, arith, if◌then◌else◌}
+use Rattle.std.proofs.Common.{◌≡◌, ◌<◌, ◌≤◌, ℕ, zero, suc, ◌+◌, ◌==◌, ◌&&◌, ◌^◌, nat_lt, Bool, true, false, List, [], ◌∷◌, ◌++◌, length, take, drop, Option}
+use Rattle.std.proofs.Common.{Some, None, Result, Ok, Err, inl, inr, refl, ap, sym, subst, ◌∙◌, arith, if◌then◌else◌}
 use Rattle.std.proofs.lemmas.Bool.{ltb-true, lt-ltb}
 use Rattle.std.proofs.lemmas.Bool.Decides.{nat_tests}
 use Rattle.ddl_token.specs.declared.token.Tok.{Tok}
@@ -63,7 +64,8 @@ three x p (b ∷ c ∷ d ∷ bs) (y ∷ digits) (suc (suc (suc k))) h e a s =
 in_decimal : (text : List ℕ) (k : ℕ) → k ≤ length text → AllPass is_decimal (take k text) → k ≤ extent Decimal text
 in_decimal text k h a = omega (arith, run_most is_decimal text k h a)
 
-in_marked : (x : ℕ) (p : ℕ → Bool) (d : ℕ) (rest : List ℕ) (n : ℕ) → p d ≡ true → n ≤ length rest → AllPass p (take n rest) → suc (suc (suc n)) ≤ 2 + run p (d ∷ rest)
+in_marked : (x : ℕ) (p : ℕ → Bool) (d : ℕ) (rest : List ℕ) (n : ℕ) → p d ≡ true → n ≤ length rest → AllPass p (take n rest)
+    → suc (suc (suc n)) ≤ 2 + run p (d ∷ rest)
 in_marked x p d rest n e h a = let m = run_most p (d ∷ rest) (suc n) (omega arith) (e, a) in omega arith
 
 -- a decimal number before the letter of a base has one digit
@@ -80,7 +82,8 @@ abbrev base_by : Bool → Bool → Base
 base_by h b = if h then Hexadecimal else (if b then Binary else Decimal)
 
 long_by : (a b d : ℕ) (rest : List ℕ) (hex bin : Bool) → marks_base 120 is_hexadecimal a b d ≡ hex → marks_base 98 (between 48 49) a b d ≡ bin →
-    (base : Base) (v count k : ℕ) → k ≤ suc (suc (suc (length rest))) → IsNumber v base count (take k (a ∷ b ∷ d ∷ rest)) → k ≤ extent (base_by hex bin) (a ∷ b ∷ d ∷ rest)
+    (base : Base) (v count k : ℕ) → k ≤ suc (suc (suc (length rest))) → IsNumber v base count (take k (a ∷ b ∷ d ∷ rest))
+    → k ≤ extent (base_by hex bin) (a ∷ b ∷ d ∷ rest)
 long_by a b d rest true bin e f Decimal v count k h n =
     let all : AllPass is_decimal (take k (a ∷ b ∷ d ∷ rest)) = subst (AllPass is_decimal) (sym n.1) n.2 in
     let m = marked 120 is_hexadecimal a b d e in
@@ -119,7 +122,8 @@ long_by a b d rest false false e f Binary v count k h n =
     let a48 : a ≡ 48 = cc (s.3) in let b98 : b ≡ 98 = cc (s.3) in let same : d ≡ s.2 = cc (s.3) in
     absurd (let x : true ≡ false = sym (marks 98 (between 48 49) a b d a48 b98 (ap (between 48 49) same ∙ s.5)) ∙ f in cc)
 
-few_bytes : (text : List ℕ) (k : ℕ) → length text ≤ 2 → k ≤ length text → (base : Base) (v count : ℕ) → IsNumber v base count (take k text) → k ≤ extent Decimal text
+few_bytes : (text : List ℕ) (k : ℕ) → length text ≤ 2 → k ≤ length text → (base : Base) (v count : ℕ) → IsNumber v base count (take k text)
+    → k ≤ extent Decimal text
 few_bytes text k l h Decimal v count n = in_decimal text k h (subst (AllPass is_decimal) (sym n.1) n.2)
 few_bytes text k l h Hexadecimal v count n =
     let s = three 120 is_hexadecimal text n.0 k h n.1 n.2 (omega (arith, n.3, n.4)) in absurd (omega (arith, s.4))
@@ -130,9 +134,11 @@ number_length : (text : List ℕ) (k : ℕ) → k ≤ length text → (base : Ba
 number_length [] k h base v count n = few_bytes [] k (omega arith) h base v count n
 number_length (a ∷ []) k h base v count n = few_bytes (a ∷ []) k (omega arith) h base v count n
 number_length (a ∷ b ∷ []) k h base v count n = few_bytes (a ∷ b ∷ []) k (omega arith) h base v count n
-number_length (a ∷ b ∷ d ∷ rest) k h base v count n = long_by a b d rest (marks_base 120 is_hexadecimal a b d) (marks_base 98 (between 48 49) a b d) refl refl base v count k h n
+number_length (a ∷ b ∷ d ∷ rest) k h base v count n = long_by a b d rest (marks_base 120 is_hexadecimal a b d) (marks_base 98 (between 48 49) a b d) refl refl
+    base v count k h n
 
-at_digit : (b : ℕ) (bs : List ℕ) (c : ℕ) → class_of b ≡ c → c ≡ 1 → (q : Option Tok) (k : ℕ) → k ≤ length bs → IsForm q (b ∷ take k bs) → Begins q c → suc k ≤ extent (base_of (b ∷ bs)) (b ∷ bs)
+at_digit : (b : ℕ) (bs : List ℕ) (c : ℕ) → class_of b ≡ c → c ≡ 1 → (q : Option Tok) (k : ℕ) → k ≤ length bs → IsForm q (b ∷ take k bs) → Begins q c
+    → suc k ≤ extent (base_of (b ∷ bs)) (b ∷ bs)
 at_digit b bs c s e None k h f (inl g) = absurd (omega arith)
 at_digit b bs c s e None k h f (inr g) = absurd (omega arith)
 at_digit b bs c s e (Some (t.Word w)) k h f g = absurd (omega arith)
@@ -171,7 +177,8 @@ marked_bytes x p a b d rest e f h =
       omega (arith, run_within p (d ∷ rest)),
     )
 
-bytes_by : (a b d : ℕ) (rest : List ℕ) (hex bin : Bool) → marks_base 120 is_hexadecimal a b d ≡ hex → marks_base 98 (between 48 49) a b d ≡ bin → is_decimal a ≡ true → Bytes (base_by hex bin) (a ∷ b ∷ d ∷ rest)
+bytes_by : (a b d : ℕ) (rest : List ℕ) (hex bin : Bool) → marks_base 120 is_hexadecimal a b d ≡ hex → marks_base 98 (between 48 49) a b d ≡ bin
+    → is_decimal a ≡ true → Bytes (base_by hex bin) (a ∷ b ∷ d ∷ rest)
 bytes_by a b d rest true bin e f h = let m = marked 120 is_hexadecimal a b d e in marked_bytes 120 is_hexadecimal a b d rest m.0 m.1 m.2
 bytes_by a b d rest false true e f h = let m = marked 98 (between 48 49) a b d f in marked_bytes 98 (between 48 49) a b d rest m.0 m.1 m.2
 bytes_by a b d rest false false e f h = decimal_bytes a (b ∷ d ∷ rest) h
@@ -183,7 +190,8 @@ bytes b (c ∷ d ∷ rest) h = bytes_by b c d rest (marks_base 120 is_hexadecima
 
 number_by : (tok : Tok) (n : ℕ) (v : Bool) (good bad : Result (Option Tok × ℕ) LexError) (e : LexError) (found : Option Tok) (k : ℕ) →
     good ≡ Ok (Some tok, n) → bad ≡ Err e → (if v then good else bad) ≡ Ok (found, k) → (found ≡ Some tok) × (k ≡ n) × (v ≡ true)
-number_by tok n true good bad e found k g f h = let pair : Option Tok × ℕ = (found, k) in let want : Option Tok × ℕ = (Some tok, n) in let same : pair ≡ want = cc in (ap (λ z. z.0) same, ap (λ z. z.1) same, refl)
+number_by tok n true good bad e found k g f h = let pair : Option Tok × ℕ = (found, k) in let want : Option Tok × ℕ = (Some tok, n) in let same : pair ≡ want =
+    cc in (ap (λ z. z.0) same, ap (λ z. z.1) same, refl)
 number_by tok n false good bad e found k g f h = absurd (cc)
 
 -- the value of the digits, and their number, as a token
@@ -195,7 +203,8 @@ number_token text =
     t.Number (value_behind (radix base) 0 (take n digits)) base n
 
 -- all digits of its base that follow make the longest form, whatever their value
-pub digits_longest : (b : ℕ) (bs : List ℕ) → is_decimal b ≡ true → class_of b ≡ 1 → IsLongest (Some (number_token (b ∷ bs))) (extent (base_of (b ∷ bs)) (b ∷ bs)) (b ∷ bs)
+pub digits_longest : (b : ℕ) (bs : List ℕ) → is_decimal b ≡ true → class_of b ≡ 1
+    → IsLongest (Some (number_token (b ∷ bs))) (extent (base_of (b ∷ bs)) (b ∷ bs)) (b ∷ bs)
 digits_longest b bs d c =
     let text = b ∷ bs in
     let base = base_of text in
@@ -203,11 +212,13 @@ digits_longest b bs d c =
     let n = run (is_digit_of base) digits in
     let all = bytes b bs d in
     let count : n ≡ length (take n digits) = sym (taken digits n (run_within (is_digit_of base) digits)) in
-    let form : IsNumber (value_behind (radix base) 0 (take n digits)) base n (take (base_mark base + n) text) = (take n digits, all.0, run_passes (is_digit_of base) digits, count, all.1, refl) in
+    let form : IsNumber (value_behind (radix base) 0 (take n digits)) base n (take (base_mark base + n) text) =
+    (take n digits, all.0, run_passes (is_digit_of base) digits, count, all.1, refl) in
     (all.2, omega (arith, all.1), form, number_no_longer b bs c)
 
 -- the number that is found is the longest form
-pub number_longest : (at b : ℕ) (bs : List ℕ) (found : Option Tok) (k : ℕ) → is_decimal b ≡ true → class_of b ≡ 1 → number at (b ∷ bs) ≡ Ok (found, k) → IsLongest found k (b ∷ bs)
+pub number_longest : (at b : ℕ) (bs : List ℕ) (found : Option Tok) (k : ℕ) → is_decimal b ≡ true → class_of b ≡ 1 → number at (b ∷ bs) ≡ Ok (found, k)
+    → IsLongest found k (b ∷ bs)
 number_longest at b bs found k d c h =
     let text = b ∷ bs in
     let base = base_of text in

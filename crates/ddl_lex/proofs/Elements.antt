@@ -1,5 +1,6 @@
 -- A literal is read element by element.
-use Rattle.std.proofs.Common.{◌≡◌, ◌<◌, ◌≤◌, ℕ, zero, suc, ◌+◌, ◌-◌, List, [], ◌∷◌, ◌++◌, length, drop, Result, Ok, Err, refl, ap, sym, subst, length-drop, ◌∙◌, append_assoc, arith}
+use Rattle.std.proofs.Common.{◌≡◌, ◌<◌, ◌≤◌, ℕ, zero, suc, ◌+◌, ◌-◌, List, [], ◌∷◌, ◌++◌, length, drop, Result, Ok, Err, refl, ap, sym, subst, length-drop, ◌∙◌}
+use Rattle.std.proofs.Common.{append_assoc, arith}
 use Rattle.std.proofs.lemmas.List.{drop-drop}
 use Rattle.ddl_lex.specs.declared.error.LexError.{LexError}
 use Rattle.ddl_lex.specs.declared.literal.Element.TheVariants.{Means}
@@ -52,13 +53,15 @@ pub one_more_element : (quote start at v n k : ℕ) (bytes inside text : List �
     literal quote start at 0 inside ≡ behind (bytes ++ v ∷ []) (k + n) (literal quote start (at + (k + n)) 0 (drop n text))
 one_more_element quote start at v n k bytes inside text r e s h =
     let f : at + (k + n) ≡ at + k + n = omega arith in
-    rw f (r ∙ ap (behind bytes k) (one_element quote start (at + k) v n text e s h) ∙ behind_twice bytes (v ∷ []) k n (literal quote start (at + k + n) 0 (drop n text)))
+    rw f (r ∙ ap (behind bytes k) (one_element quote start (at + k) v n text e s h)
+    ∙ behind_twice bytes (v ∷ []) k n (literal quote start (at + k + n) 0 (drop n text)))
 
 -- one element more of the inside of a literal
 pub element_more : (quote start at n taken v : ℕ) (inside rest bytes more : List ℕ) →
     literal quote start at 0 inside ≡ behind bytes n (literal quote start (at + n) 0 (drop n inside)) →
     n ≤ length inside → rest ≡ drop n inside → Means v taken ≡ element quote rest → Takes (Means v taken) rest → more ≡ bytes ++ v ∷ [] →
-    (n + taken ≤ length inside) × (literal quote start at 0 inside ≡ behind more (n + taken) (literal quote start (at + (n + taken)) 0 (drop (n + taken) inside)))
+    (n + taken ≤ length inside) × (literal quote start at 0 inside
+    ≡ behind more (n + taken) (literal quote start (at + (n + taken)) 0 (drop (n + taken) inside)))
 element_more quote start at n taken v inside rest bytes more r within s e takes m =
     let within' : n + taken ≤ length inside = omega (arith, takes.1, ap length s, length-drop n inside) in
     let e' : element quote (drop n inside) ≡ Means v taken = sym (subst (λ z. Means v taken ≡ element quote z) s e) in

@@ -1,5 +1,6 @@
 -- The error that is told behind some tokens is what is wrong there.
-use Rattle.std.proofs.Common.{◌≡◌, ◌<◌, ℕ, zero, suc, ◌==◌, ◌&&◌, ◌||◌, ◌^◌, Bool, true, false, List, ◌∷◌, length, take, drop, get_or, Some, None, Ok, Err, inl, inr, refl, ap, sym, subst, ◌∙◌, arith, if◌then◌else◌}
+use Rattle.std.proofs.Common.{◌≡◌, ◌<◌, ℕ, zero, suc, ◌==◌, ◌&&◌, ◌||◌, ◌^◌, Bool, true, false, List, ◌∷◌, length, take, drop, get_or, Some, None, Ok, Err, inl}
+use Rattle.std.proofs.Common.{inr, refl, ap, sym, subst, ◌∙◌, arith, if◌then◌else◌}
 use Rattle.std.proofs.Math.Seq.{drop-cons}
 use Rattle.std.proofs.lemmas.Bool.{eq-eqb}
 use Rattle.ddl_token.specs.declared.token.Tok.{Tok}
@@ -32,7 +33,8 @@ error_as tokens at text e f same w = subst (IsError tokens at text) same w
 one_told : (tokens : List Token) (at b : ℕ) (bs : List ℕ) (e : LexError) (r : Found) → (is_full tokens && begins_token b) ≡ false → piece at b (b ∷ bs) ≡ r →
     one_more_token (is_full tokens) at r ≡ Err e → IsError tokens at (b ∷ bs) e
 one_told tokens at b bs e (Err f) v p h =
-    error_as tokens at (b ∷ bs) f e (cc) (is_wrong (λ full. and_false (is_full tokens) (begins_token b) v (eq-eqb (length tokens) (2 ^ 20) full)) (piece_told at b bs f p))
+    error_as tokens at (b ∷ bs) f e (cc) (is_wrong (λ full. and_false (is_full tokens) (begins_token b) v (eq-eqb (length tokens) (2 ^ 20) full))
+    (piece_told at b bs f p))
 one_told tokens at b bs e (Ok (None, n)) v p h = cc
 one_told tokens at b bs e (Ok (Some tok, n)) v p h =
     let right = piece_right at b bs (Some tok) n p in
@@ -49,7 +51,8 @@ unfolding next_piece
 next_told tokens at b bs e h =
     let r : Found = Err e in
     by_test (is_full tokens && begins_token b) _ _ r (IsError tokens at (b ∷ bs) e) h
-    (λ v f. (let x = both (is_full tokens) (begins_token b) v in error_as tokens at (b ∷ bs) (TooManyTokens at) e (cc) (too_many (full_length tokens x.0) (inl x.1))))
+    (λ v f. (let x = both (is_full tokens) (begins_token b) v
+    in error_as tokens at (b ∷ bs) (TooManyTokens at) e (cc) (too_many (full_length tokens x.0) (inl x.1))))
     (λ v f. one_told tokens at b bs e (piece at b (b ∷ bs)) v refl f)
 
 -- ---- what is wrong is told
@@ -78,7 +81,8 @@ fits_by (t.Number value base digits) b k bs n f = absurd (let x = digit_token b 
 fits_by (t.Char c) b k bs n f = tt
 fits_by (t.Text means) b k bs n f = tt
 
-token_right : (tok : Tok) (n b : ℕ) (bs : List ℕ) → begins_token b ≡ false → IsLongest (Some tok) n (b ∷ bs) → begins_with 123 45 (b ∷ bs) ≡ false → IsRight (Some tok) n (b ∷ bs)
+token_right : (tok : Tok) (n b : ℕ) (bs : List ℕ) → begins_token b ≡ false → IsLongest (Some tok) n (b ∷ bs) → begins_with 123 45 (b ∷ bs) ≡ false
+    → IsRight (Some tok) n (b ∷ bs)
 token_right tok zero b bs v l c = absurd (omega (arith, l.1))
 token_right tok (suc k) b bs v l c = (l, (λ h. (cc)), fits_by tok b k bs v l.2)
 
@@ -92,7 +96,8 @@ no_more : (a b : Bool) → (a ≡ true → b ≡ false) → (a && b) ≡ false
 no_more true b h = h refl
 no_more false b h = refl
 
-wrong_piece : (full : Bool) (at b : ℕ) (bs : List ℕ) (e : LexError) → (full && begins_token b) ≡ false → piece at b (b ∷ bs) ≡ Err e → next_piece full at b (b ∷ bs) ≡ Err e
+wrong_piece : (full : Bool) (at b : ℕ) (bs : List ℕ) (e : LexError) → (full && begins_token b) ≡ false → piece at b (b ∷ bs) ≡ Err e
+    → next_piece full at b (b ∷ bs) ≡ Err e
 unfolding next_piece
 wrong_piece full at b bs e v p = rw (v, p) refl
 
@@ -104,29 +109,36 @@ error_told tokens at b bs e (is_wrong n w) =
 
 -- ---- at a place of a text
 
-pub error_stands : (text : List ℕ) (tokens : List Token) (at : ℕ) (e : LexError) → at < length text → IsError tokens at (drop at text) e → stands text tokens at ≡ Err e
+pub error_stands : (text : List ℕ) (tokens : List Token) (at : ℕ) (e : LexError) → at < length text → IsError tokens at (drop at text) e
+    → stands text tokens at ≡ Err e
 error_stands text tokens at e h i =
     let b = get_or text at 0 in
     let rest : drop at text ≡ b ∷ drop (suc at) text = drop-cons text at 0 h in
-    subst (λ z. next_piece (is_full tokens) at b z ≡ Err e) (sym rest) (error_told tokens at b (drop (suc at) text) e (subst (λ z. IsError tokens at z e) rest i))
+    subst (λ z. next_piece (is_full tokens) at b z ≡ Err e) (sym rest)
+    (error_told tokens at b (drop (suc at) text) e (subst (λ z. IsError tokens at z e) rest i))
 
-pub stands_error : (text : List ℕ) (tokens : List Token) (at : ℕ) (e : LexError) → at < length text → stands text tokens at ≡ Err e → IsError tokens at (drop at text) e
+pub stands_error : (text : List ℕ) (tokens : List Token) (at : ℕ) (e : LexError) → at < length text → stands text tokens at ≡ Err e
+    → IsError tokens at (drop at text) e
 stands_error text tokens at e h s =
     let b = get_or text at 0 in
     let rest : drop at text ≡ b ∷ drop (suc at) text = drop-cons text at 0 h in
-    subst (λ z. IsError tokens at z e) (sym rest) (next_told tokens at b (drop (suc at) text) e (subst (λ z. next_piece (is_full tokens) at b z ≡ Err e) rest s))
+    subst (λ z. IsError tokens at z e) (sym rest) (next_told tokens at b (drop (suc at) text) e
+    (subst (λ z. next_piece (is_full tokens) at b z ≡ Err e) rest s))
 
-stands_as : (text rest : List ℕ) (tokens : List Token) (at b : ℕ) (e : LexError) → at < length text → rest ≡ drop at text → b ≡ get_or rest 0 0 → next_piece (is_full tokens) at b rest ≡ Err e → stands text tokens at ≡ Err e
+stands_as : (text rest : List ℕ) (tokens : List Token) (at b : ℕ) (e : LexError) → at < length text → rest ≡ drop at text → b ≡ get_or rest 0 0
+    → next_piece (is_full tokens) at b rest ≡ Err e → stands text tokens at ≡ Err e
 stands_as text rest tokens at b e h left first g =
     let front : get_or (drop at text) 0 0 ≡ get_or text at 0 = ap (λ z. get_or z 0 0) (drop-cons text at 0 h) in
     let byte : b ≡ get_or text at 0 = first ∙ ap (λ z. get_or z 0 0) left ∙ front in
     subst (λ z. next_piece (is_full tokens) at z (drop at text) ≡ Err e) byte (subst (λ z. next_piece (is_full tokens) at b z ≡ Err e) left g)
 
-error_at : (text rest : List ℕ) (tokens : List Token) (at b : ℕ) (e : LexError) → at < length text → rest ≡ drop at text → b ≡ get_or rest 0 0 → next_piece (is_full tokens) at b rest ≡ Err e → IsError tokens at (drop at text) e
+error_at : (text rest : List ℕ) (tokens : List Token) (at b : ℕ) (e : LexError) → at < length text → rest ≡ drop at text → b ≡ get_or rest 0 0
+    → next_piece (is_full tokens) at b rest ≡ Err e → IsError tokens at (drop at text) e
 error_at text rest tokens at b e h left first g = stands_error text tokens at e h (stands_as text rest tokens at b e h left first g)
 
 -- what is found there is an error of the text, unless memory ran out
-pub has_error : (text rest : List ℕ) (tokens : List Token) (at b : ℕ) (e : LexError) → Cut text tokens at → at < length text → rest ≡ drop at text → b ≡ get_or rest 0 0 →
+pub has_error : (text rest : List ℕ) (tokens : List Token) (at b : ℕ) (e : LexError) → Cut text tokens at → at < length text → rest ≡ drop at text
+    → b ≡ get_or rest 0 0 →
     Gives (next_piece (is_full tokens) at b rest) (Err e) → HasError text e
 has_error text rest tokens at b NoMemory c h left first g = tt
 has_error text rest tokens at b (BadByte a) c h left first g = (tokens, at, c, h, error_at text rest tokens at b (BadByte a) h left first g)

@@ -1,5 +1,6 @@
 -- How long the forms are that begin with a byte of a class.
-use Rattle.std.proofs.Common.{◌≡◌, ◌≢◌, ◌⊎◌, ◌≤◌, ℕ, zero, suc, ◌||◌, nat_le, Bool, true, false, List, [], ◌∷◌, length, take, get_or, Option, Some, None, inl, inr, refl, ap, sym, subst, ◌∙◌, arith, if◌then◌else◌}
+use Rattle.std.proofs.Common.{◌≡◌, ◌≢◌, ◌⊎◌, ◌≤◌, ℕ, zero, suc, ◌||◌, nat_le, Bool, true, false, List, [], ◌∷◌, length, take, get_or, Option, Some, None, inl}
+use Rattle.std.proofs.Common.{inr, refl, ap, sym, subst, ◌∙◌, arith, if◌then◌else◌}
 use Rattle.std.proofs.lemmas.Bool.Decides.{nat_tests}
 use Rattle.ddl_token.specs.declared.word.Word.{Word}
 use Rattle.ddl_token.specs.declared.mark.Mark.{Mark}
@@ -113,7 +114,8 @@ white_no_longer b bs e q (suc k) h f = at_white b bs (class_of b) refl e q k (om
 abbrev pub IsRunOrWord : List ℕ → ℕ → Type 0
 IsRunOrWord text k = (k ≤ run is_name text) ⊎ ((w : Word) × (take k text ≡ word_spelling w) × (k ≤ suc (run is_name text)))
 
-at_letter : (b : ℕ) (bs : List ℕ) (c : ℕ) → class_of b ≡ c → c ≡ 0 → (q : Option Tok) (k : ℕ) → k ≤ length bs → IsForm q (b ∷ take k bs) → Begins q c → IsRunOrWord (b ∷ bs) (suc k)
+at_letter : (b : ℕ) (bs : List ℕ) (c : ℕ) → class_of b ≡ c → c ≡ 0 → (q : Option Tok) (k : ℕ) → k ≤ length bs → IsForm q (b ∷ take k bs) → Begins q c
+    → IsRunOrWord (b ∷ bs) (suc k)
 at_letter b bs c s e None k h f (inl g) = absurd (omega arith)
 at_letter b bs c s e None k h f (inr g) = absurd (omega arith)
 at_letter b bs c s e (Some (t.Word w)) k h f g = inr (w, f, word_length (b ∷ bs) (suc k) w (omega arith) f)
@@ -126,12 +128,14 @@ at_letter b bs c s e (Some (t.Number v base n)) k h f g = absurd (omega arith)
 at_letter b bs c s e (Some (t.Char x)) k h f g = absurd (omega arith)
 at_letter b bs c s e (Some (t.Text x)) k h f g = absurd (omega arith)
 
-pub letter_length : (b : ℕ) (bs : List ℕ) → class_of b ≡ 0 → (q : Option Tok) (k : ℕ) → k ≤ suc (length bs) → IsForm q (take k (b ∷ bs)) → IsRunOrWord (b ∷ bs) k
+pub letter_length : (b : ℕ) (bs : List ℕ) → class_of b ≡ 0 → (q : Option Tok) (k : ℕ) → k ≤ suc (length bs) → IsForm q (take k (b ∷ bs))
+    → IsRunOrWord (b ∷ bs) k
 letter_length b bs e q zero h f = inl (omega arith)
 letter_length b bs e q (suc k) h f = at_letter b bs (class_of b) refl e q k (omega arith) f (begins q b (take k bs) f)
 
 -- `_` and a byte of names
-at_hidden : (b : ℕ) (bs : List ℕ) (c : ℕ) → class_of b ≡ c → c ≡ 5 → b ≡ 95 → 2 ≤ run is_name (b ∷ bs) → (q : Option Tok) (k : ℕ) → k ≤ length bs → IsForm q (b ∷ take k bs) → Begins q c → suc k ≤ run is_name (b ∷ bs)
+at_hidden : (b : ℕ) (bs : List ℕ) (c : ℕ) → class_of b ≡ c → c ≡ 5 → b ≡ 95 → 2 ≤ run is_name (b ∷ bs) → (q : Option Tok) (k : ℕ) → k ≤ length bs
+    → IsForm q (b ∷ take k bs) → Begins q c → suc k ≤ run is_name (b ∷ bs)
 at_hidden b bs c s e u r None k h (inl w) (inl g) = absurd (omega arith)
 at_hidden b bs c s e u r None k h (inl w) (inr g) = omega (arith, white_length b bs k h w)
 at_hidden b bs c s e u r None k h (inr (inl l)) g = absurd (omega (arith, line_byte b (take k bs) l))
@@ -146,12 +150,14 @@ at_hidden b bs c s e u r (Some (t.Number v base n)) k h f g = absurd (omega arit
 at_hidden b bs c s e u r (Some (t.Char x)) k h f g = absurd (omega arith)
 at_hidden b bs c s e u r (Some (t.Text x)) k h f g = absurd (omega arith)
 
-pub hidden_length : (b : ℕ) (bs : List ℕ) → b ≡ 95 → 2 ≤ run is_name (b ∷ bs) → (q : Option Tok) (k : ℕ) → k ≤ suc (length bs) → IsForm q (take k (b ∷ bs)) → k ≤ run is_name (b ∷ bs)
+pub hidden_length : (b : ℕ) (bs : List ℕ) → b ≡ 95 → 2 ≤ run is_name (b ∷ bs) → (q : Option Tok) (k : ℕ) → k ≤ suc (length bs) → IsForm q (take k (b ∷ bs))
+    → k ≤ run is_name (b ∷ bs)
 hidden_length b bs u r q zero h f = omega arith
 hidden_length b bs u r q (suc k) h f = at_hidden b bs (class_of b) refl (ap class_of u) u r q k (omega arith) f (begins q b (take k bs) f)
 
 -- a class
-at_class : (b : ℕ) (bs : List ℕ) (c : ℕ) → class_of b ≡ c → c ≡ 5 → b ≡ 36 → 1 ≤ run is_name bs → (q : Option Tok) (k : ℕ) → k ≤ length bs → IsForm q (b ∷ take k bs) → Begins q c → suc k ≤ suc (run is_name bs)
+at_class : (b : ℕ) (bs : List ℕ) (c : ℕ) → class_of b ≡ c → c ≡ 5 → b ≡ 36 → 1 ≤ run is_name bs → (q : Option Tok) (k : ℕ) → k ≤ length bs
+    → IsForm q (b ∷ take k bs) → Begins q c → suc k ≤ suc (run is_name bs)
 at_class b bs c s e u r None k h (inl w) g = omega (arith, white_length b bs k h w)
 at_class b bs c s e u r None k h (inr (inl l)) g = absurd (omega (arith, line_byte b (take k bs) l))
 at_class b bs c s e u r None k h (inr (inr l)) g = absurd (omega (arith, comment_byte b (take k bs) l))

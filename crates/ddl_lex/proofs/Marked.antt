@@ -1,5 +1,6 @@
 -- The mark that is found is the longest.
-use Rattle.std.proofs.Common.{◌≡◌, ◌≢◌, ◌⊎◌, ◌<◌, ◌≤◌, ℕ, Bool, true, false, nat_le, nat_lt, nat_eq, List, [], ◌∷◌, length, take, get_or, Some, None, inl, inr, refl, sym, subst, arith, if◌then◌else◌}
+use Rattle.std.proofs.Common.{◌≡◌, ◌≢◌, ◌⊎◌, ◌<◌, ◌≤◌, ℕ, Bool, true, false, nat_le, nat_lt, nat_eq, List, [], ◌∷◌, length, take, get_or, Some, None, inl, inr}
+use Rattle.std.proofs.Common.{refl, sym, subst, arith, if◌then◌else◌}
 use Rattle.std.specs.List.{starts_with}
 use Rattle.std.proofs.lemmas.Bool.{ltb-true}
 use Rattle.std.proofs.lemmas.Bool.Decides.{nat_tests}
@@ -47,63 +48,380 @@ every_mark m.BitAnd = inl refl
 every_mark m.BitOr = inr (inl refl)
 every_mark m.BitXor = inr (inr (inl refl))
 every_mark m.Arrow = inr (inr (inr (inr (inr (inr (inr (inr (inl refl))))))))
-every_mark m.Equals = inr (inr (inr (inr (inr (inr (inr (inr (inr (inr (inr (inr (inr (inr (inr (inr (inr (inr (inr (inr (inr (inr (inl refl))))))))))))))))))))))
+every_mark m.Equals =
+    inr (inr (inr (inr (inr (inr (inr (inr (inr (inr (inr (inr (inr (inr (inr (inr (inr (inr (inr (inr (inr (inr (inl refl))))))))))))))))))))))
 every_mark m.EqualEqual = inr (inr (inr (inr (inr (inr (inr (inr (inr (inl refl)))))))))
 every_mark m.NotEqual = inr (inr (inr (inr (inr (inr (inr (inr (inr (inr (inl refl))))))))))
-every_mark m.Bang = inr (inr (inr (inr (inr (inr (inr (inr (inr (inr (inr (inr (inr (inr (inr (inr (inr (inr (inr (inr (inr (inr (inr (inl refl)))))))))))))))))))))))
-every_mark m.Less = inr (inr (inr (inr (inr (inr (inr (inr (inr (inr (inr (inr (inr (inr (inr (inr (inr (inr (inr (inr (inr (inr (inr (inr (inl refl))))))))))))))))))))))))
+every_mark m.Bang =
+    inr (inr (inr (inr (inr (inr (inr (inr (inr (inr (inr (inr (inr (inr (inr (inr (inr (inr (inr (inr (inr (inr (inr (inl refl)))))))))))))))))))))))
+every_mark m.Less =
+    inr (inr (inr (inr (inr (inr (inr (inr (inr (inr (inr (inr (inr (inr (inr (inr (inr (inr (inr (inr (inr (inr (inr (inr (inl refl))))))))))))))))))))))))
 every_mark m.LessEqual = inr (inr (inr (inr (inr (inr (inr (inr (inr (inr (inr (inl refl)))))))))))
 every_mark m.ShiftLeft = inr (inr (inr (inr (inr (inr (inr (inr (inr (inr (inr (inr (inl refl))))))))))))
 every_mark m.LessHash = inr (inr (inr (inr (inr (inr (inr (inr (inr (inr (inr (inr (inr (inl refl)))))))))))))
-every_mark m.Hash = inr (inr (inr (inr (inr (inr (inr (inr (inr (inr (inr (inr (inr (inr (inr (inr (inr (inr (inr (inr (inr (inr (inr (inr (inr (inl refl)))))))))))))))))))))))))
-every_mark m.Greater = inr (inr (inr (inr (inr (inr (inr (inr (inr (inr (inr (inr (inr (inr (inr (inr (inr (inr (inr (inr (inr (inr (inr (inr (inr (inr (inl refl))))))))))))))))))))))))))
+every_mark m.Hash =
+    inr
+    (inr (inr (inr (inr (inr (inr (inr (inr (inr (inr (inr (inr (inr (inr (inr (inr (inr (inr (inr (inr (inr (inr (inr (inr (inl refl)))))))))))))))))))))))))
+every_mark m.Greater =
+    inr
+    (inr
+    (inr (inr (inr (inr (inr (inr (inr (inr (inr (inr (inr (inr (inr (inr (inr (inr (inr (inr (inr (inr (inr (inr (inr (inr (inl refl))))))))))))))))))))))))))
 every_mark m.ShiftRight = inr (inr (inr (inr (inr (inr (inr (inr (inr (inr (inr (inr (inr (inr (inl refl))))))))))))))
 every_mark m.GreaterEqual = inr (inr (inr (inr (inr (inr (inr (inr (inr (inr (inr (inr (inr (inr (inr (inl refl)))))))))))))))
-every_mark m.Plus = inr (inr (inr (inr (inr (inr (inr (inr (inr (inr (inr (inr (inr (inr (inr (inr (inr (inr (inr (inr (inr (inr (inr (inr (inr (inr (inr (inl refl)))))))))))))))))))))))))))
-every_mark m.Minus = inr (inr (inr (inr (inr (inr (inr (inr (inr (inr (inr (inr (inr (inr (inr (inr (inr (inr (inr (inr (inr (inr (inr (inr (inr (inr (inr (inr (inl refl))))))))))))))))))))))))))))
-every_mark m.Star = inr (inr (inr (inr (inr (inr (inr (inr (inr (inr (inr (inr (inr (inr (inr (inr (inr (inr (inr (inr (inr (inr (inr (inr (inr (inr (inr (inr (inr (inl refl)))))))))))))))))))))))))))))
-every_mark m.Slash = inr (inr (inr (inr (inr (inr (inr (inr (inr (inr (inr (inr (inr (inr (inr (inr (inr (inr (inr (inr (inr (inr (inr (inr (inr (inr (inr (inr (inr (inr (inl refl))))))))))))))))))))))))))))))
-every_mark m.Percent = inr (inr (inr (inr (inr (inr (inr (inr (inr (inr (inr (inr (inr (inr (inr (inr (inr (inr (inr (inr (inr (inr (inr (inr (inr (inr (inr (inr (inr (inr (inr (inl refl)))))))))))))))))))))))))))))))
-every_mark m.Tilde = inr (inr (inr (inr (inr (inr (inr (inr (inr (inr (inr (inr (inr (inr (inr (inr (inr (inr (inr (inr (inr (inr (inr (inr (inr (inr (inr (inr (inr (inr (inr (inr (inl refl))))))))))))))))))))))))))))))))
+every_mark m.Plus =
+    inr
+    (inr
+    (inr
+    (inr (inr (inr (inr (inr (inr (inr (inr (inr (inr (inr (inr (inr (inr (inr (inr (inr (inr (inr (inr (inr (inr (inr (inr (inl refl)))))))))))))))))))))))))))
+every_mark m.Minus =
+    inr
+    (inr
+    (inr
+    (inr
+    (inr
+    (inr (inr (inr (inr (inr (inr (inr (inr (inr (inr (inr (inr (inr (inr (inr (inr (inr (inr (inr (inr (inr (inr (inr (inl refl))))))))))))))))))))))))))))
+every_mark m.Star =
+    inr
+    (inr
+    (inr
+    (inr
+    (inr
+    (inr
+    (inr (inr (inr (inr (inr (inr (inr (inr (inr (inr (inr (inr (inr (inr (inr (inr (inr (inr (inr (inr (inr (inr (inr (inl refl)))))))))))))))))))))))))))))
+every_mark m.Slash =
+    inr
+    (inr
+    (inr
+    (inr
+    (inr
+    (inr
+    (inr
+    (inr (inr (inr (inr (inr (inr (inr (inr (inr (inr (inr (inr (inr (inr (inr (inr (inr (inr (inr (inr (inr (inr (inr (inl refl))))))))))))))))))))))))))))))
+every_mark m.Percent =
+    inr
+    (inr
+    (inr
+    (inr
+    (inr
+    (inr
+    (inr
+    (inr
+    (inr (inr (inr (inr (inr (inr (inr (inr (inr (inr (inr (inr (inr (inr (inr (inr (inr (inr (inr (inr (inr (inr (inr (inl refl)))))))))))))))))))))))))))))))
+every_mark m.Tilde =
+    inr
+    (inr
+    (inr
+    (inr
+    (inr
+    (inr
+    (inr
+    (inr
+    (inr
+    (inr (inr (inr (inr (inr (inr (inr (inr (inr (inr (inr (inr (inr (inr (inr (inr (inr (inr (inr (inr (inr (inr (inr (inl refl))))))))))))))))))))))))))))))))
 every_mark m.AndAnd = inr (inr (inr (inr (inr (inr (inr (inr (inr (inr (inr (inr (inr (inr (inr (inr (inl refl))))))))))))))))
-every_mark m.OpenParen = inr (inr (inr (inr (inr (inr (inr (inr (inr (inr (inr (inr (inr (inr (inr (inr (inr (inr (inr (inr (inr (inr (inr (inr (inr (inr (inr (inr (inr (inr (inr (inr (inr (inl refl)))))))))))))))))))))))))))))))))
-every_mark m.CloseParen = inr (inr (inr (inr (inr (inr (inr (inr (inr (inr (inr (inr (inr (inr (inr (inr (inr (inr (inr (inr (inr (inr (inr (inr (inr (inr (inr (inr (inr (inr (inr (inr (inr (inr (inl refl))))))))))))))))))))))))))))))))))
-every_mark m.OpenBracket = inr (inr (inr (inr (inr (inr (inr (inr (inr (inr (inr (inr (inr (inr (inr (inr (inr (inr (inr (inr (inr (inr (inr (inr (inr (inr (inr (inr (inr (inr (inr (inr (inr (inr (inr (inl refl)))))))))))))))))))))))))))))))))))
-every_mark m.CloseBracket = inr (inr (inr (inr (inr (inr (inr (inr (inr (inr (inr (inr (inr (inr (inr (inr (inr (inr (inr (inr (inr (inr (inr (inr (inr (inr (inr (inr (inr (inr (inr (inr (inr (inr (inr (inr (inl refl))))))))))))))))))))))))))))))))))))
-every_mark m.OpenBrace = inr (inr (inr (inr (inr (inr (inr (inr (inr (inr (inr (inr (inr (inr (inr (inr (inr (inr (inr (inr (inr (inr (inr (inr (inr (inr (inr (inr (inr (inr (inr (inr (inr (inr (inr (inr (inr (inl refl)))))))))))))))))))))))))))))))))))))
-every_mark m.CloseBrace = inr (inr (inr (inr (inr (inr (inr (inr (inr (inr (inr (inr (inr (inr (inr (inr (inr (inr (inr (inr (inr (inr (inr (inr (inr (inr (inr (inr (inr (inr (inr (inr (inr (inr (inr (inr (inr (inr (inl refl))))))))))))))))))))))))))))))))))))))
+every_mark m.OpenParen =
+    inr
+    (inr
+    (inr
+    (inr
+    (inr
+    (inr
+    (inr
+    (inr
+    (inr
+    (inr
+    (inr
+    (inr (inr (inr (inr (inr (inr (inr (inr (inr (inr (inr (inr (inr (inr (inr (inr (inr (inr (inr (inr (inr (inr (inl refl)))))))))))))))))))))))))))))))))
+every_mark m.CloseParen =
+    inr
+    (inr
+    (inr
+    (inr
+    (inr
+    (inr
+    (inr
+    (inr
+    (inr
+    (inr
+    (inr
+    (inr
+    (inr (inr (inr (inr (inr (inr (inr (inr (inr (inr (inr (inr (inr (inr (inr (inr (inr (inr (inr (inr (inr (inr (inl refl))))))))))))))))))))))))))))))))))
+every_mark m.OpenBracket =
+    inr
+    (inr
+    (inr
+    (inr
+    (inr
+    (inr
+    (inr
+    (inr
+    (inr
+    (inr
+    (inr
+    (inr
+    (inr
+    (inr (inr (inr (inr (inr (inr (inr (inr (inr (inr (inr (inr (inr (inr (inr (inr (inr (inr (inr (inr (inr (inr (inl refl)))))))))))))))))))))))))))))))))))
+every_mark m.CloseBracket =
+    inr
+    (inr
+    (inr
+    (inr
+    (inr
+    (inr
+    (inr
+    (inr
+    (inr
+    (inr
+    (inr
+    (inr
+    (inr
+    (inr
+    (inr (inr (inr (inr (inr (inr (inr (inr (inr (inr (inr (inr (inr (inr (inr (inr (inr (inr (inr (inr (inr (inr (inl refl))))))))))))))))))))))))))))))))))))
+every_mark m.OpenBrace =
+    inr
+    (inr
+    (inr
+    (inr
+    (inr
+    (inr
+    (inr
+    (inr
+    (inr
+    (inr
+    (inr
+    (inr
+    (inr
+    (inr
+    (inr
+    (inr (inr (inr (inr (inr (inr (inr (inr (inr (inr (inr (inr (inr (inr (inr (inr (inr (inr (inr (inr (inr (inr (inl refl)))))))))))))))))))))))))))))))))))))
+every_mark m.CloseBrace =
+    inr
+    (inr
+    (inr
+    (inr
+    (inr
+    (inr
+    (inr
+    (inr
+    (inr
+    (inr
+    (inr
+    (inr
+    (inr
+    (inr
+    (inr
+    (inr
+    (inr
+    (inr (inr (inr (inr (inr (inr (inr (inr (inr (inr (inr (inr (inr (inr (inr (inr (inr (inr (inr (inr (inr (inl refl))))))))))))))))))))))))))))))))))))))
 every_mark m.OpenUnion = inr (inr (inr (inr (inr (inr (inr (inr (inr (inr (inr (inr (inr (inr (inr (inr (inr (inl refl)))))))))))))))))
 every_mark m.CloseUnion = inr (inr (inr (inr (inr (inr (inr (inr (inr (inr (inr (inr (inr (inr (inr (inr (inr (inr (inl refl))))))))))))))))))
-every_mark m.Comma = inr (inr (inr (inr (inr (inr (inr (inr (inr (inr (inr (inr (inr (inr (inr (inr (inr (inr (inr (inr (inr (inr (inr (inr (inr (inr (inr (inr (inr (inr (inr (inr (inr (inr (inr (inr (inr (inr (inr (inl refl)))))))))))))))))))))))))))))))))))))))
-every_mark m.Semicolon = inr (inr (inr (inr (inr (inr (inr (inr (inr (inr (inr (inr (inr (inr (inr (inr (inr (inr (inr (inr (inr (inr (inr (inr (inr (inr (inr (inr (inr (inr (inr (inr (inr (inr (inr (inr (inr (inr (inr (inr (inl refl))))))))))))))))))))))))))))))))))))))))
-every_mark m.Colon = inr (inr (inr (inr (inr (inr (inr (inr (inr (inr (inr (inr (inr (inr (inr (inr (inr (inr (inr (inr (inr (inr (inr (inr (inr (inr (inr (inr (inr (inr (inr (inr (inr (inr (inr (inr (inr (inr (inr (inr (inr (inl refl)))))))))))))))))))))))))))))))))))))))))
-every_mark m.Underscore = inr (inr (inr (inr (inr (inr (inr (inr (inr (inr (inr (inr (inr (inr (inr (inr (inr (inr (inr (inr (inr (inr (inr (inr (inr (inr (inr (inr (inr (inr (inr (inr (inr (inr (inr (inr (inr (inr (inr (inr (inr (inr (inl refl))))))))))))))))))))))))))))))))))))))))))
+every_mark m.Comma =
+    inr
+    (inr
+    (inr
+    (inr
+    (inr
+    (inr
+    (inr
+    (inr
+    (inr
+    (inr
+    (inr
+    (inr
+    (inr
+    (inr
+    (inr
+    (inr
+    (inr
+    (inr
+    (inr (inr (inr (inr (inr (inr (inr (inr (inr (inr (inr (inr (inr (inr (inr (inr (inr (inr (inr (inr (inr (inl refl)))))))))))))))))))))))))))))))))))))))
+every_mark m.Semicolon =
+    inr
+    (inr
+    (inr
+    (inr
+    (inr
+    (inr
+    (inr
+    (inr
+    (inr
+    (inr
+    (inr
+    (inr
+    (inr
+    (inr
+    (inr
+    (inr
+    (inr
+    (inr
+    (inr
+    (inr (inr (inr (inr (inr (inr (inr (inr (inr (inr (inr (inr (inr (inr (inr (inr (inr (inr (inr (inr (inr (inl refl))))))))))))))))))))))))))))))))))))))))
+every_mark m.Colon =
+    inr
+    (inr
+    (inr
+    (inr
+    (inr
+    (inr
+    (inr
+    (inr
+    (inr
+    (inr
+    (inr
+    (inr
+    (inr
+    (inr
+    (inr
+    (inr
+    (inr
+    (inr
+    (inr
+    (inr
+    (inr (inr (inr (inr (inr (inr (inr (inr (inr (inr (inr (inr (inr (inr (inr (inr (inr (inr (inr (inr (inr (inl refl)))))))))))))))))))))))))))))))))))))))))
+every_mark m.Underscore =
+    inr
+    (inr
+    (inr
+    (inr
+    (inr
+    (inr
+    (inr
+    (inr
+    (inr
+    (inr
+    (inr
+    (inr
+    (inr
+    (inr
+    (inr
+    (inr
+    (inr
+    (inr
+    (inr
+    (inr
+    (inr
+    (inr (inr (inr (inr (inr (inr (inr (inr (inr (inr (inr (inr (inr (inr (inr (inr (inr (inr (inr (inr (inr (inl refl))))))))))))))))))))))))))))))))))))))))))
 
 falls : Falls 3 marks
-falls = (refl, (refl, (refl, (refl, (refl, (refl, (refl, (refl, (refl, (refl, (refl, (refl, (refl, (refl, (refl, (refl, (refl, (refl, (refl, (refl, (refl, (refl, (refl, (refl, (refl, (refl, (refl, (refl, (refl, (refl, (refl, (refl, (refl, (refl, (refl, (refl, (refl, (refl, (refl, (refl, (refl, (refl, (refl, tt)))))))))))))))))))))))))))))))))))))))))))
+falls = (
+  refl,
+  (
+    refl,
+    (
+      refl,
+      (
+        refl,
+        (
+          refl,
+          (
+            refl,
+            (
+              refl,
+              (
+                refl,
+                (
+                  refl,
+                  (
+                    refl,
+                    (
+                      refl,
+                      (
+                        refl,
+                        (
+                          refl,
+                          (
+                            refl,
+                            (
+                              refl,
+                              (
+                                refl,
+                                (
+                                  refl,
+                                  (
+                                    refl,
+                                    (
+                                      refl,
+                                      (
+                                        refl,
+                                        (
+                                          refl,
+                                          (
+                                            refl,
+                                            (
+                                              refl,
+                                              (
+                                                refl,
+                                                (
+                                                  refl,
+                                                  (
+                                                    refl,
+                                                    (
+                                                      refl,
+                                                      (
+                                                        refl,
+                                                        (refl, (refl, (refl, (refl, (refl, (refl, (refl, (refl, (refl, (refl, (refl, (refl, (refl, (refl, (refl, tt))))))))))))))),
+                                                      ),
+                                                    ),
+                                                  ),
+                                                ),
+                                              ),
+                                            ),
+                                          ),
+                                        ),
+                                      ),
+                                    ),
+                                  ),
+                                ),
+                              ),
+                            ),
+                          ),
+                        ),
+                      ),
+                    ),
+                  ),
+                ),
+              ),
+            ),
+          ),
+        ),
+      ),
+    ),
+  ),
+)
 
 most_test : (m : Mark) (ms : List Mark) (text : List ℕ) (found other : Mark) (v : Bool) → (mark_spelling m ≡ take (length (mark_spelling m)) text → v ≡ true) →
-    (if v then Some m else mark_among ms text) ≡ Some found → Falls (length (mark_spelling m)) ms → (m ≡ other) ⊎ Among other ms → mark_spelling other ≡ take (length (mark_spelling other)) text →
-    (mark_among ms text ≡ Some found → Among other ms → length (mark_spelling other) ≤ length (mark_spelling found)) → length (mark_spelling other) ≤ length (mark_spelling found)
-most_test m ms text found other true d e f (inl same) s rest = let k : m ≡ found = cc in subst (λ z. length (mark_spelling other) ≤ length (mark_spelling z)) k (subst (λ z. length (mark_spelling z) ≤ length (mark_spelling m)) same (omega arith))
-most_test m ms text found other true d e f (inr a) s rest = let k : m ≡ found = cc in subst (λ z. length (mark_spelling other) ≤ length (mark_spelling z)) k (short ms (length (mark_spelling m)) other f a)
-most_test m ms text found other false d e f (inl same) s rest = absurd (let g : false ≡ true = d (subst (λ z. mark_spelling z ≡ take (length (mark_spelling z)) text) (sym same) s) in cc)
+    (if v then Some m else mark_among ms text) ≡ Some found → Falls (length (mark_spelling m)) ms → (m ≡ other) ⊎ Among other ms
+    → mark_spelling other ≡ take (length (mark_spelling other)) text →
+    (mark_among ms text ≡ Some found → Among other ms → length (mark_spelling other) ≤ length (mark_spelling found))
+    → length (mark_spelling other) ≤ length (mark_spelling found)
+most_test m ms text found other true d e f (inl same) s rest = let k : m ≡ found =
+    cc in subst (λ z. length (mark_spelling other) ≤ length (mark_spelling z)) k
+    (subst (λ z. length (mark_spelling z) ≤ length (mark_spelling m)) same (omega arith))
+most_test m ms text found other true d e f (inr a) s rest = let k : m ≡ found =
+    cc in subst (λ z. length (mark_spelling other) ≤ length (mark_spelling z)) k (short ms (length (mark_spelling m)) other f a)
+most_test m ms text found other false d e f (inl same) s rest =
+    absurd (let g : false ≡ true = d (subst (λ z. mark_spelling z ≡ take (length (mark_spelling z)) text) (sym same) s) in cc)
 most_test m ms text found other false d e f (inr a) s rest = rest e a
 
-most_among : (ms : List Mark) (n : ℕ) (text : List ℕ) (found other : Mark) → mark_among ms text ≡ Some found → Falls n ms → Among other ms → mark_spelling other ≡ take (length (mark_spelling other)) text → length (mark_spelling other) ≤ length (mark_spelling found)
+most_among : (ms : List Mark) (n : ℕ) (text : List ℕ) (found other : Mark) → mark_among ms text ≡ Some found → Falls n ms → Among other ms
+    → mark_spelling other ≡ take (length (mark_spelling other)) text → length (mark_spelling other) ≤ length (mark_spelling found)
 most_among [] n text found other e f a s = absurd a
-most_among (m ∷ ms) n text found other e f a s = most_test m ms text found other (starts_with nat_eq text (mark_spelling m)) (not_starts m text) e f.1 a s (λ e' a'. most_among ms (length (mark_spelling m)) text found other e' f.1 a' s)
+most_among (m ∷ ms) n text found other e f a s = most_test m ms text found other (starts_with nat_eq text (mark_spelling m)) (not_starts m text) e f.1 a s
+    (λ e' a'. most_among ms (length (mark_spelling m)) text found other e' f.1 a' s)
 
 -- no mark with which the text begins is longer
-pub mark_most : (text : List ℕ) (found other : Mark) → mark_of text ≡ Some found → mark_spelling other ≡ take (length (mark_spelling other)) text → length (mark_spelling other) ≤ length (mark_spelling found)
+pub mark_most : (text : List ℕ) (found other : Mark) → mark_of text ≡ Some found → mark_spelling other ≡ take (length (mark_spelling other)) text
+    → length (mark_spelling other) ≤ length (mark_spelling found)
 mark_most text found other e s = most_among marks 3 text found other e falls (every_mark other) s
 
 begin_test : (m : Mark) (ms : List Mark) (text : List ℕ) (found : Mark) (v : Bool) → (v ≡ true → mark_spelling m ≡ take (length (mark_spelling m)) text) →
-    (if v then Some m else mark_among ms text) ≡ Some found → (mark_among ms text ≡ Some found → mark_spelling found ≡ take (length (mark_spelling found)) text) → mark_spelling found ≡ take (length (mark_spelling found)) text
+    (if v then Some m else mark_among ms text) ≡ Some found → (mark_among ms text ≡ Some found → mark_spelling found ≡ take (length (mark_spelling found)) text)
+    → mark_spelling found ≡ take (length (mark_spelling found)) text
 begin_test m ms text found true d e rest = let k : m ≡ found = cc in subst (λ z. mark_spelling z ≡ take (length (mark_spelling z)) text) k (d refl)
 begin_test m ms text found false d e rest = rest e
 
-begins_among : (ms : List Mark) (text : List ℕ) (found : Mark) → mark_among ms text ≡ Some found → mark_spelling found ≡ take (length (mark_spelling found)) text
+begins_among : (ms : List Mark) (text : List ℕ) (found : Mark) → mark_among ms text ≡ Some found
+    → mark_spelling found ≡ take (length (mark_spelling found)) text
 begins_among [] text found e = cc
 begins_among (m ∷ ms) text found e = begin_test m ms text found (starts_with nat_eq text (mark_spelling m)) (starts m text) e (begins_among ms text found)
 
@@ -112,12 +430,16 @@ pub mark_begins : (text : List ℕ) (found : Mark) → mark_of text ≡ Some fou
 mark_begins text found e = begins_among marks text found e
 
 none_test : (m : Mark) (ms : List Mark) (text : List ℕ) (other : Mark) (v : Bool) → (mark_spelling m ≡ take (length (mark_spelling m)) text → v ≡ true) →
-    (if v then Some m else mark_among ms text) ≡ None → (m ≡ other) ⊎ Among other ms → (mark_among ms text ≡ None → Among other ms → mark_spelling other ≢ take (length (mark_spelling other)) text) → mark_spelling other ≢ take (length (mark_spelling other)) text
+    (if v then Some m else mark_among ms text) ≡ None → (m ≡ other) ⊎ Among other ms
+    → (mark_among ms text ≡ None → Among other ms → mark_spelling other ≢ take (length (mark_spelling other)) text)
+    → mark_spelling other ≢ take (length (mark_spelling other)) text
 none_test m ms text other true d e a rest = λ s. (cc)
-none_test m ms text other false d e (inl same) rest = λ s. (let g : false ≡ true = d (subst (λ z. mark_spelling z ≡ take (length (mark_spelling z)) text) (sym same) s) in cc)
+none_test m ms text other false d e (inl same) rest = λ s.
+    (let g : false ≡ true = d (subst (λ z. mark_spelling z ≡ take (length (mark_spelling z)) text) (sym same) s) in cc)
 none_test m ms text other false d e (inr a) rest = rest e a
 
-none_among : (ms : List Mark) (text : List ℕ) (other : Mark) → mark_among ms text ≡ None → Among other ms → mark_spelling other ≢ take (length (mark_spelling other)) text
+none_among : (ms : List Mark) (text : List ℕ) (other : Mark) → mark_among ms text ≡ None → Among other ms
+    → mark_spelling other ≢ take (length (mark_spelling other)) text
 none_among [] text other e a = absurd a
 none_among (m ∷ ms) text other e a = none_test m ms text other (starts_with nat_eq text (mark_spelling m)) (not_starts m text) e a (none_among ms text other)
 

@@ -1,5 +1,6 @@
 -- Words, names, classes and marks: those that are found are the longest forms.
-use Rattle.std.proofs.Common.{◌≡◌, ◌⊎◌, ◌<◌, ◌≤◌, ℕ, zero, suc, ◌+◌, ◌==◌, ◌&&◌, ◌||◌, nat_lt, Bool, true, false, List, [], ◌∷◌, length, take, get_or, Option, Some, None, inl, inr, refl, ap, sym, subst, ◌∙◌, arith, if◌then◌else◌}
+use Rattle.std.proofs.Common.{◌≡◌, ◌⊎◌, ◌<◌, ◌≤◌, ℕ, zero, suc, ◌+◌, ◌==◌, ◌&&◌, ◌||◌, nat_lt, Bool, true, false, List, [], ◌∷◌, length, take, get_or, Option}
+use Rattle.std.proofs.Common.{Some, None, inl, inr, refl, ap, sym, subst, ◌∙◌, arith, if◌then◌else◌}
 use Rattle.std.proofs.lemmas.Bool.{ltb-true, lt-ltb}
 use Rattle.ddl_token.specs.declared.word.Word.{Word}
 use Rattle.ddl_token.specs.declared.mark.Mark.{Mark}
@@ -57,7 +58,8 @@ signed_none false x e h = cc
 split : (k n : ℕ) → k ≤ suc n → (k ≤ n) ⊎ (k ≡ n + 1)
 split zero n h = inl (omega arith)
 split (suc k) zero h = inr (omega arith)
-split (suc k) (suc n) h = elim (split k n (omega arith)) as (λ _. (suc k ≤ suc n) ⊎ (suc k ≡ suc n + 1)) [ inl x ↦ inl (omega arith) | inr x ↦ inr (omega arith) ]
+split (suc k) (suc n) h = elim (split k n (omega arith)) as (λ _. (suc k ≤ suc n)
+    ⊎ (suc k ≡ suc n + 1)) [ inl x ↦ inl (omega arith) | inr x ↦ inr (omega arith) ]
 
 no_longer_by : (text : List ℕ) (k : ℕ) → k ≤ length text → signed_word (run is_name text) text ≡ None → IsRunOrWord text k → k ≤ run is_name text
 no_longer_by text k h e (inl x) = x
@@ -74,7 +76,8 @@ no_longer_by text k h e (inr (w, s, l)) = elim (split k (run is_name text) l) as
 small_of : (b : ℕ) → is_capital b ≡ false → is_letter b ≡ true → is_small b ≡ true
 small_of b e l = elim (either (is_capital b) (is_small b) l) as (λ _. is_small b ≡ true) [ inl x ↦ (cc) | inr x ↦ x ]
 
-hidden_by : (b : ℕ) (bs : List ℕ) (m : ℕ) → b ≡ 95 → is_name (get_or bs 0 0) ≡ true → (1 ≤ m) ⊎ (is_letter b ≡ true) → AllPass is_name (take m bs) → IsHidden (b ∷ take m bs)
+hidden_by : (b : ℕ) (bs : List ℕ) (m : ℕ) → b ≡ 95 → is_name (get_or bs 0 0) ≡ true → (1 ≤ m) ⊎ (is_letter b ≡ true) → AllPass is_name (take m bs)
+    → IsHidden (b ∷ take m bs)
 hidden_by b [] m u n p a = cc
 hidden_by b (c ∷ cs) zero u n (inl p) a = absurd (omega arith)
 hidden_by b (c ∷ cs) zero u n (inr p) a = let x : is_letter b ≡ false = ap is_letter u in cc
@@ -84,13 +87,15 @@ long_enough : (b : ℕ) (bs : List ℕ) (m : ℕ) → run is_name (b ∷ bs) ≡
 long_enough b bs m r (inl l) = inr l
 long_enough b bs m r (inr u) = inl (omega (arith, r, hidden_run b bs u.0 u.1))
 
-no_word_by : (b : ℕ) (bs : List ℕ) (m : ℕ) (v : Bool) → is_capital b ≡ v → Starts b bs → (Starts b bs → (1 ≤ m) ⊎ (is_letter b ≡ true)) → AllPass is_name (take m bs) → IsNoWord (b ∷ take m bs) →
+no_word_by : (b : ℕ) (bs : List ℕ) (m : ℕ) (v : Bool) → is_capital b ≡ v → Starts b bs → (Starts b bs → (1 ≤ m) ⊎ (is_letter b ≡ true))
+    → AllPass is_name (take m bs) → IsNoWord (b ∷ take m bs) →
     IsForm (Some (if v then t.Upper (b ∷ take m bs) else t.Lower (b ∷ take m bs))) (b ∷ take m bs)
 no_word_by b bs m true e s p a n = (refl, (e, a), n)
 no_word_by b bs m false e (inl l) p a n = (refl, inl (small_of b e l, a), n)
 no_word_by b bs m false e (inr u) p a n = (refl, inr (hidden_by b bs m u.0 u.1 (p (inr u)) a), n)
 
-named_by : (b : ℕ) (bs : List ℕ) (m : ℕ) (o : Option Word) → run is_name (b ∷ bs) ≡ suc m → Starts b bs → AllPass is_name (take m bs) → word_of (b ∷ take m bs) ≡ o → IsForm (Some (word_or_name o (b ∷ take m bs))) (b ∷ take m bs)
+named_by : (b : ℕ) (bs : List ℕ) (m : ℕ) (o : Option Word) → run is_name (b ∷ bs) ≡ suc m → Starts b bs → AllPass is_name (take m bs)
+    → word_of (b ∷ take m bs) ≡ o → IsForm (Some (word_or_name o (b ∷ take m bs))) (b ∷ take m bs)
 named_by b bs m (Some w) r s a e = sym (word_found (b ∷ take m bs) w e)
 named_by b bs m None r s a e = no_word_by b bs m (is_capital b) refl s (long_enough b bs m r) a (no_word_found (b ∷ take m bs) e)
 
@@ -112,15 +117,18 @@ named_at b bs None s e =
     let first = run_first b bs (first_name b bs s) in
     let form = named_by b bs (run is_name bs) (word_of (b ∷ take (run is_name bs) bs)) first s (run_passes is_name bs) refl in
     let front : b ∷ take (run is_name bs) bs ≡ take n text = ap (λ z. take z text) (sym first) in
-    let form' : IsForm (Some (word_or_name (word_of (take n text)) (take n text))) (take n text) = subst (λ z. IsForm (Some (word_or_name (word_of z) z)) z) front form in
+    let form' : IsForm (Some (word_or_name (word_of (take n text)) (take n text))) (take n text) =
+    subst (λ z. IsForm (Some (word_or_name (word_of z) z)) z) front form in
     (run_within is_name text, omega (arith, first), form', λ q k h f. no_longer_by text k h e (form_length b bs s q k h f))
 
 -- the word or name that is found is the longest form
-pub named_longest : (b : ℕ) (bs : List ℕ) → begins_name (b ∷ bs) ≡ true → let n = run is_name (b ∷ bs) in IsLongest (named n (b ∷ bs)).0 (named n (b ∷ bs)).1 (b ∷ bs)
+pub named_longest : (b : ℕ) (bs : List ℕ) → begins_name (b ∷ bs) ≡ true → let n =
+    run is_name (b ∷ bs) in IsLongest (named n (b ∷ bs)).0 (named n (b ∷ bs)).1 (b ∷ bs)
 named_longest b bs h = named_at b bs (signed_word (run is_name (b ∷ bs)) (b ∷ bs)) (starts b bs h) refl
 
 -- the class that is found is the longest form
-pub class_longest : (b : ℕ) (bs : List ℕ) → begins_class (b ∷ bs) ≡ true → let n = suc (run is_name bs) in IsLongest (Some (t.Class (take n (b ∷ bs)))) n (b ∷ bs)
+pub class_longest : (b : ℕ) (bs : List ℕ) → begins_class (b ∷ bs) ≡ true → let n =
+    suc (run is_name bs) in IsLongest (Some (t.Class (take n (b ∷ bs)))) n (b ∷ bs)
 class_longest b [] h = cc
 class_longest b (d ∷ ds) h =
     let x = both (b == 36) (is_small d) h in
@@ -138,7 +146,8 @@ white_byte b (c ∷ bs) w = absurd w
 
 -- where nothing else begins
 abbrev pub IsSign : ℕ → List ℕ → Type 0
-IsSign b bs = (class_of b ≡ 5) × (begins_with 45 45 (b ∷ bs) ≡ false) × (begins_with 123 45 (b ∷ bs) ≡ false) × (begins_name (b ∷ bs) ≡ false) × (begins_class (b ∷ bs) ≡ false)
+IsSign b bs = (class_of b ≡ 5) × (begins_with 45 45 (b ∷ bs) ≡ false) × (begins_with 123 45 (b ∷ bs) ≡ false) × (begins_name (b ∷ bs) ≡ false)
+    × (begins_class (b ∷ bs) ≡ false)
 
 no_line : (b : ℕ) (bs : List ℕ) (k : ℕ) → begins_with 45 45 (b ∷ bs) ≡ false → IsLineComment (b ∷ take k bs) → ⊥
 no_line b [] zero n l = l
@@ -160,7 +169,8 @@ no_hidden : (b : ℕ) (bs : List ℕ) (k : ℕ) → begins_name (b ∷ bs) ≡ f
 no_hidden b [] zero n l = l
 no_hidden b [] (suc k) n l = l
 no_hidden b (c ∷ bs) zero n l = l
-no_hidden b (c ∷ bs) (suc k) n l = let y : (b == 95 && is_name c) ≡ true = rw (l.0, l.1) refl in let x : begins_name (b ∷ c ∷ bs) ≡ true = or_right (is_letter b) (b == 95 && is_name c) y in cc
+no_hidden b (c ∷ bs) (suc k) n l = let y : (b == 95 && is_name c) ≡ true = rw (l.0, l.1) refl in let x : begins_name (b ∷ c ∷ bs) ≡ true =
+    or_right (is_letter b) (b == 95 && is_name c) y in cc
 
 no_class : (b : ℕ) (bs : List ℕ) (k : ℕ) → begins_class (b ∷ bs) ≡ false → IsClass (b ∷ take k bs) → ⊥
 no_class b [] zero n l = l.1
@@ -169,7 +179,8 @@ no_class b (c ∷ bs) zero n l = l.1
 no_class b (c ∷ bs) (suc k) n l = let x : begins_class (b ∷ c ∷ bs) ≡ true = rw (l.0, l.1.0) refl in cc
 
 -- only a mark begins there
-only_mark : (b : ℕ) (bs : List ℕ) (c : ℕ) → class_of b ≡ c → IsSign b bs → (q : Option Tok) (k : ℕ) → IsForm q (b ∷ take k bs) → Begins q c → (m : Mark) × (take (suc k) (b ∷ bs) ≡ mark_spelling m)
+only_mark : (b : ℕ) (bs : List ℕ) (c : ℕ) → class_of b ≡ c → IsSign b bs → (q : Option Tok) (k : ℕ) → IsForm q (b ∷ take k bs) → Begins q c
+    → (m : Mark) × (take (suc k) (b ∷ bs) ≡ mark_spelling m)
 only_mark b bs c s i None k (inl w) g = absurd (omega (arith, i.0, white_class b (white_byte b (take k bs) w)))
 only_mark b bs c s i None k (inr (inl l)) g = absurd (no_line b bs k i.1 l)
 only_mark b bs c s i None k (inr (inr l)) g = absurd (no_comment b bs k i.2 l)
@@ -190,7 +201,8 @@ take_short (b ∷ bs) zero = omega arith
 take_short (b ∷ bs) (suc k) = omega (arith, take_short bs k)
 
 -- the length of a mark that begins the text is the number of bytes that it takes
-mark_bytes : (text : List ℕ) (k : ℕ) (m : Mark) → k ≤ length text → take k text ≡ mark_spelling m → (k ≡ length (mark_spelling m)) × (mark_spelling m ≡ take (length (mark_spelling m)) text)
+mark_bytes : (text : List ℕ) (k : ℕ) (m : Mark) → k ≤ length text → take k text ≡ mark_spelling m
+    → (k ≡ length (mark_spelling m)) × (mark_spelling m ≡ take (length (mark_spelling m)) text)
 mark_bytes text k m h e =
     let n : k ≡ length (mark_spelling m) = sym (taken text k h) ∙ ap length e in
     (n, sym e ∙ ap (λ z. take z text) n)

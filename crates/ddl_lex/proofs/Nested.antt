@@ -1,5 +1,6 @@
 -- A comment ends where the bytes of its relation end: so the count of its bytes is right.
-use Rattle.std.proofs.Common.{◌≡◌, ◌<◌, ℕ, zero, suc, ◌+◌, ◌==◌, ◌||◌, Bool, true, false, List, [], ◌∷◌, ◌++◌, length, take, drop, get_or, Option, Some, None, refl, ap, sym, subst, ◌∙◌, append_assoc, append-nil, length-append, arith, if◌then◌else◌}
+use Rattle.std.proofs.Common.{◌≡◌, ◌<◌, ℕ, zero, suc, ◌+◌, ◌==◌, ◌||◌, Bool, true, false, List, [], ◌∷◌, ◌++◌, length, take, drop, get_or, Option, Some, None}
+use Rattle.std.proofs.Common.{refl, ap, sym, subst, ◌∙◌, append_assoc, append-nil, length-append, arith, if◌then◌else◌}
 use Rattle.ddl_lex.specs.Comments.{comment, one_more}
 use Rattle.ddl_lex.specs.Nesting.{opens, ends, NoSign, EndsComment, close, byte, nested}
 use Rattle.ddl_lex.proofs.Steps.{plus}
@@ -55,7 +56,8 @@ byte_counted : (b : ℕ) (bytes tail : List ℕ) (depth : ℕ) → NoSign (b ∷
 byte_counted b [] tail depth n s h = absurd (omega arith)
 byte_counted b (c ∷ cs) tail depth n s h = step depth b c (cs ++ tail) n.0 n.1 ∙ ap one_more h ∙ plus_suc (length cs) (after depth tail)
 
-nested_counted : (inner bytes tail : List ℕ) (depth : ℕ) → comment (suc depth) 0 (inner ++ (bytes ++ tail)) ≡ plus (length inner) (comment depth 0 (bytes ++ tail)) →
+nested_counted : (inner bytes tail : List ℕ) (depth : ℕ)
+    → comment (suc depth) 0 (inner ++ (bytes ++ tail)) ≡ plus (length inner) (comment depth 0 (bytes ++ tail)) →
     comment depth 0 (bytes ++ tail) ≡ plus (length bytes) (after depth tail) → Counted (123 ∷ 45 ∷ inner ++ bytes) tail depth
 nested_counted inner bytes tail depth i c =
     let within : comment (suc depth) 0 ((inner ++ bytes) ++ tail) ≡ plus (length (inner ++ bytes)) (after depth tail) =
@@ -105,7 +107,8 @@ no_zero : (depth : ℕ) (t : List ℕ) → EndAll depth (0 ∷ t) → EndAll dep
 no_zero zero t c = without_zero t (0 ∷ t) c refl
 no_zero (suc depth) t c = zero_inner depth t c.0 c.1 c.2 c.3 c.4
 
-byte_inner : (depth a b : ℕ) (t inner outer : List ℕ) → opens a b ≡ false → ends a b ≡ false → b ∷ t ≡ inner ++ outer → EndsComment inner → EndAll depth outer → EndAll (suc depth) (a ∷ b ∷ t)
+byte_inner : (depth a b : ℕ) (t inner outer : List ℕ) → opens a b ≡ false → ends a b ≡ false → b ∷ t ≡ inner ++ outer → EndsComment inner → EndAll depth outer
+    → EndAll (suc depth) (a ∷ b ∷ t)
 byte_inner depth a b t [] outer n m e i o = absurd (let x = some [] i in omega arith)
 byte_inner depth a b t (c ∷ cs) outer n m e i o =
     let first : b ≡ c = head_same b c t (cs ++ outer) e in
@@ -129,7 +132,8 @@ one_end depth t c = (45 ∷ 125 ∷ [], t, refl, close, c)
 abbrev Found : ℕ → ℕ → List ℕ → Type 0
 Found depth a bs = (m : ℕ) → comment depth a bs ≡ Some m → EndAll depth (a ∷ take m bs)
 
-inside : (depth a : ℕ) (bs : List ℕ) (n : ℕ) (o : Option ℕ) → comment depth a bs ≡ o → one_more o ≡ Some n → (m : ℕ) × (n ≡ suc m) × (comment depth a bs ≡ Some m)
+inside : (depth a : ℕ) (bs : List ℕ) (n : ℕ) (o : Option ℕ) → comment depth a bs ≡ o → one_more o ≡ Some n
+    → (m : ℕ) × (n ≡ suc m) × (comment depth a bs ≡ Some m)
 inside depth a bs n None c e = cc
 inside depth a bs n (Some m) c e = (m, (let x : n ≡ suc m = cc in x), c)
 
@@ -140,21 +144,24 @@ ends_bytes : (a b : ℕ) → ends a b ≡ true → (a ≡ 45) × (b ≡ 125)
 ends_bytes a b h = let x = both (a == 45) (b == 125) h in (equal_of a 45 x.0, equal_of b 125 x.1)
 
 -- a byte that opens one more
-at_open : (depth a b : ℕ) (bs : List ℕ) (n : ℕ) → opens a b ≡ true → Found (suc depth) 0 bs → one_more (comment (suc depth) 0 bs) ≡ Some n → EndAll depth (a ∷ take n (b ∷ bs))
+at_open : (depth a b : ℕ) (bs : List ℕ) (n : ℕ) → opens a b ≡ true → Found (suc depth) 0 bs → one_more (comment (suc depth) 0 bs) ≡ Some n
+    → EndAll depth (a ∷ take n (b ∷ bs))
 at_open depth a b bs n o f e =
     let x = inside (suc depth) 0 bs n (comment (suc depth) 0 bs) refl e in
     let s = opens_bytes a b o in
     rw (x.1, s.0, s.1) (one_open depth (take x.0 bs) (no_zero (suc depth) (take x.0 bs) (f x.0 x.2)))
 
 -- a byte that ends one of several
-at_end : (depth a b : ℕ) (bs : List ℕ) (n : ℕ) → ends a b ≡ true → Found depth 0 bs → one_more (comment depth 0 bs) ≡ Some n → EndAll (suc depth) (a ∷ take n (b ∷ bs))
+at_end : (depth a b : ℕ) (bs : List ℕ) (n : ℕ) → ends a b ≡ true → Found depth 0 bs → one_more (comment depth 0 bs) ≡ Some n
+    → EndAll (suc depth) (a ∷ take n (b ∷ bs))
 at_end depth a b bs n o f e =
     let x = inside depth 0 bs n (comment depth 0 bs) refl e in
     let s = ends_bytes a b o in
     rw (x.1, s.0, s.1) (one_end depth (take x.0 bs) (no_zero depth (take x.0 bs) (f x.0 x.2)))
 
 -- another byte
-at_byte : (depth a b : ℕ) (bs : List ℕ) (n : ℕ) → opens a b ≡ false → ends a b ≡ false → Found depth b bs → one_more (comment depth b bs) ≡ Some n → EndAll depth (a ∷ take n (b ∷ bs))
+at_byte : (depth a b : ℕ) (bs : List ℕ) (n : ℕ) → opens a b ≡ false → ends a b ≡ false → Found depth b bs → one_more (comment depth b bs) ≡ Some n
+    → EndAll depth (a ∷ take n (b ∷ bs))
 at_byte depth a b bs n o m f e =
     let x = inside depth b bs n (comment depth b bs) refl e in
     rw x.1 (one_byte depth a b (take x.0 bs) o m (f x.0 x.2))
@@ -170,7 +177,8 @@ outermost a b bs n false false v' w' f e = at_byte 0 a b bs n w' v' f e
 
 further : (depth a b : ℕ) (bs : List ℕ) (n : ℕ) (v w : Bool) → ends a b ≡ v → opens a b ≡ w →
     Found (if w then suc (suc depth) else (if v then depth else suc depth)) (if w || v then 0 else b) bs →
-    one_more (comment (if w then suc (suc depth) else (if v then depth else suc depth)) (if w || v then 0 else b) bs) ≡ Some n → EndAll (suc depth) (a ∷ take n (b ∷ bs))
+    one_more (comment (if w then suc (suc depth) else (if v then depth else suc depth)) (if w || v then 0 else b) bs) ≡ Some n
+    → EndAll (suc depth) (a ∷ take n (b ∷ bs))
 further depth a b bs n v true v' w' f e = at_open (suc depth) a b bs n w' f e
 further depth a b bs n true false v' w' f e = at_end depth a b bs n v' f e
 further depth a b bs n false false v' w' f e = at_byte (suc depth) a b bs n w' v' f e

@@ -1,5 +1,6 @@
 -- Texts and characters: those that are found are the longest forms.
-use Rattle.std.proofs.Common.{◌≡◌, ◌<◌, ◌≤◌, ℕ, zero, suc, ◌+◌, ◌-◌, ◌*◌, ◌==◌, ◌&&◌, ◌||◌, Bool, true, false, List, [], ◌∷◌, length, take, drop, get_or, Option, Some, None, Result, Ok, Err, inl, inr, refl, ap, sym, subst, ◌∙◌, arith, if◌then◌else◌}
+use Rattle.std.proofs.Common.{◌≡◌, ◌<◌, ◌≤◌, ℕ, zero, suc, ◌+◌, ◌-◌, ◌*◌, ◌==◌, ◌&&◌, ◌||◌, Bool, true, false, List, [], ◌∷◌, length, take, drop, get_or}
+use Rattle.std.proofs.Common.{Option, Some, None, Result, Ok, Err, inl, inr, refl, ap, sym, subst, ◌∙◌, arith, if◌then◌else◌}
 use Rattle.ddl_token.specs.declared.token.Tok.{Tok}
 use Rattle.ddl_token.specs.declared.token.Tok.TheVariants as t
 use Rattle.ddl_lex.specs.declared.error.LexError.{LexError}
@@ -56,33 +57,40 @@ escape_more [] zero g = absurd g
 escape_more [] (suc k) g = absurd g
 escape_more (b ∷ bs) zero g = absurd g
 escape_more (b ∷ bs) (suc k) g =
-    good_by (b == 110) _ _ _ (good_by (b == 116) _ _ _ (good_by (b == 114) _ _ _ (good_by (b == 92 || b == 34 || b == 39) _ _ _ (λ g'. last_by (b == 120) _ _ NoEscape (hexadecimal_more bs k) g')))) g
+    good_by (b == 110) _ _ _ (good_by (b == 116) _ _ _ (good_by (b == 114) _ _ _
+    (good_by (b == 92 || b == 34 || b == 39) _ _ _ (λ g'. last_by (b == 120) _ _ NoEscape (hexadecimal_more bs k) g')))) g
 
 element_more : (quote b : ℕ) (bs : List ℕ) (k : ℕ) → Good (element quote (b ∷ take k bs)) → element quote (b ∷ bs) ≡ element quote (b ∷ take k bs)
-element_more quote b bs k g = good_by (b == quote) _ _ _ (good_by (b == 10) _ _ _ (λ g'. last_by (b == 92) _ _ (if is_control b then Control else Means b 1) (escape_more bs k) g')) g
+element_more quote b bs k g = good_by (b == quote) _ _ _
+    (good_by (b == 10) _ _ _ (λ g'. last_by (b == 92) _ _ (if is_control b then Control else Means b 1) (escape_more bs k) g')) g
 
 -- ---- more text does not change what is read
 
-meaning_more : (v n : ℕ) (bytes : List ℕ) (x y : Read) → ((bs : List ℕ) (m : ℕ) → x ≡ Ok (bs, m) → y ≡ Ok (bs, m)) → meaning v x ≡ Ok (bytes, n) → meaning v y ≡ Ok (bytes, n)
+meaning_more : (v n : ℕ) (bytes : List ℕ) (x y : Read) → ((bs : List ℕ) (m : ℕ) → x ≡ Ok (bs, m) → y ≡ Ok (bs, m)) → meaning v x ≡ Ok (bytes, n)
+    → meaning v y ≡ Ok (bytes, n)
 meaning_more v n bytes (Err e) y h f = cc
 meaning_more v n bytes (Ok r) y h f = let g : y ≡ Ok r = h r.0 r.1 refl in ap (meaning v) g ∙ f
 
-later_more : (n : ℕ) (bytes : List ℕ) (x y : Read) → ((bs : List ℕ) (m : ℕ) → x ≡ Ok (bs, m) → y ≡ Ok (bs, m)) → later x ≡ Ok (bytes, n) → later y ≡ Ok (bytes, n)
+later_more : (n : ℕ) (bytes : List ℕ) (x y : Read) → ((bs : List ℕ) (m : ℕ) → x ≡ Ok (bs, m) → y ≡ Ok (bs, m)) → later x ≡ Ok (bytes, n)
+    → later y ≡ Ok (bytes, n)
 later_more n bytes (Err e) y h f = cc
 later_more n bytes (Ok r) y h f = let g : y ≡ Ok r = h r.0 r.1 refl in ap later g ∙ f
 
-read_more : (s a s' a' : ℕ) (e : Element) (n : ℕ) (bytes : List ℕ) (x y : Read) → ((bs : List ℕ) (m : ℕ) → x ≡ Ok (bs, m) → y ≡ Ok (bs, m)) → read s a e x ≡ Ok (bytes, n) → Good e × (read s' a' e y ≡ Ok (bytes, n))
+read_more : (s a s' a' : ℕ) (e : Element) (n : ℕ) (bytes : List ℕ) (x y : Read) → ((bs : List ℕ) (m : ℕ) → x ≡ Ok (bs, m) → y ≡ Ok (bs, m))
+    → read s a e x ≡ Ok (bytes, n) → Good e × (read s' a' e y ≡ Ok (bytes, n))
 read_more s a s' a' (Means v k) n bytes x y h f = (tt, meaning_more v n bytes x y h f)
 read_more s a s' a' Closes n bytes x y h f = (tt, f)
 read_more s a s' a' Ends n bytes x y h f = cc
 read_more s a s' a' Control n bytes x y h f = cc
 read_more s a s' a' NoEscape n bytes x y h f = cc
 
-pub literal_more : (quote s a s' a' skip : ℕ) (text : List ℕ) (k n : ℕ) (bytes : List ℕ) → literal quote s a skip (take k text) ≡ Ok (bytes, n) → literal quote s' a' skip text ≡ Ok (bytes, n)
+pub literal_more : (quote s a s' a' skip : ℕ) (text : List ℕ) (k n : ℕ) (bytes : List ℕ) → literal quote s a skip (take k text) ≡ Ok (bytes, n)
+    → literal quote s' a' skip text ≡ Ok (bytes, n)
 literal_more quote s a s' a' skip [] zero n bytes e = cc
 literal_more quote s a s' a' skip [] (suc k) n bytes e = cc
 literal_more quote s a s' a' skip (b ∷ bs) zero n bytes e = cc
-literal_more quote s a s' a' (suc skip) (b ∷ bs) (suc k) n bytes e = later_more n bytes _ _ (λ c m f. literal_more quote s (a + 1) s' (a' + 1) skip bs k m c f) e
+literal_more quote s a s' a' (suc skip) (b ∷ bs) (suc k) n bytes e =
+    later_more n bytes _ _ (λ c m f. literal_more quote s (a + 1) s' (a' + 1) skip bs k m c f) e
 literal_more quote s a s' a' zero (b ∷ bs) (suc k) n bytes e =
     let el = element quote (b ∷ take k bs) in
     let r = read_more s a s' a' el n bytes (literal quote s (a + 1) (bytes_behind el) (take k bs)) (literal quote s' (a' + 1) (bytes_behind el) bs)
@@ -99,8 +107,10 @@ four false w v j e = cc
 hexadecimal_short : (text : List ℕ) (k v j : ℕ) → hexadecimal_escape text ≡ Means v j → j ≤ suc (suc k) → hexadecimal_escape (take k text) ≡ Means v j
 hexadecimal_short [] k v j e h = cc
 hexadecimal_short (x ∷ []) k v j e h = cc
-hexadecimal_short (x ∷ y ∷ bs) zero v j e h = let l = four (is_hexadecimal x && is_hexadecimal y) (16 * digit_value x + digit_value y) v j e in absurd (omega arith)
-hexadecimal_short (x ∷ y ∷ bs) (suc zero) v j e h = let l = four (is_hexadecimal x && is_hexadecimal y) (16 * digit_value x + digit_value y) v j e in absurd (omega arith)
+hexadecimal_short (x ∷ y ∷ bs) zero v j e h = let l = four (is_hexadecimal x && is_hexadecimal y) (16 * digit_value x + digit_value y) v j e
+    in absurd (omega arith)
+hexadecimal_short (x ∷ y ∷ bs) (suc zero) v j e h = let l = four (is_hexadecimal x && is_hexadecimal y) (16 * digit_value x + digit_value y) v j e
+    in absurd (omega arith)
 hexadecimal_short (x ∷ y ∷ bs) (suc (suc k)) v j e h = e
 
 short_by : (c : Bool) (x y z : Element) (v j : ℕ) → (y ≡ Means v j → z ≡ Means v j) → (if c then x else y) ≡ Means v j → (if c then x else z) ≡ Means v j
@@ -126,7 +136,8 @@ hexadecimal_two (x ∷ []) v j e = cc
 hexadecimal_two (x ∷ y ∷ bs) v j e = let l = four (is_hexadecimal x && is_hexadecimal y) (16 * digit_value x + digit_value y) v j e in omega arith
 
 escape_two : (b : ℕ) (bs : List ℕ) (v j : ℕ) → escape (b ∷ bs) ≡ Means v j → 2 ≤ j
-escape_two b bs v j e = two_by (b == 110) 10 _ v j (two_by (b == 116) 9 _ v j (two_by (b == 114) 13 _ v j (two_by (b == 92 || b == 34 || b == 39) b _ v j (last_two (b == 120) (hexadecimal_escape bs) v j (hexadecimal_two bs v j))))) e
+escape_two b bs v j e = two_by (b == 110) 10 _ v j (two_by (b == 116) 9 _ v j
+    (two_by (b == 114) 13 _ v j (two_by (b == 92 || b == 34 || b == 39) b _ v j (last_two (b == 120) (hexadecimal_escape bs) v j (hexadecimal_two bs v j))))) e
 
 escape_short : (text : List ℕ) (k v j : ℕ) → escape text ≡ Means v j → j ≤ suc k → escape (take k text) ≡ Means v j
 escape_short [] k v j e h = cc
@@ -136,7 +147,8 @@ escape_short (b ∷ bs) (suc k) v j e h =
     (λ e'. then_by (b == 120) _ _ NoEscape v j (λ e''. hexadecimal_short bs k v j e'' h) e')))) e
 
 element_short : (quote b : ℕ) (bs : List ℕ) (k v j : ℕ) → element quote (b ∷ bs) ≡ Means v j → j ≤ suc k → element quote (b ∷ take k bs) ≡ Means v j
-element_short quote b bs k v j e h = short_by (b == quote) _ _ _ v j (short_by (b == 10) _ _ _ v j (λ e'. then_by (b == 92) _ _ (if is_control b then Control else Means b 1) v j (λ e''. escape_short bs k v j e'' h) e')) e
+element_short quote b bs k v j e h = short_by (b == quote) _ _ _ v j
+    (short_by (b == 10) _ _ _ v j (λ e'. then_by (b == 92) _ _ (if is_control b then Control else Means b 1) v j (λ e''. escape_short bs k v j e'' h) e')) e
 
 -- a closing quote is told by its byte
 closes_by : (c : Bool) (y z : Element) → (y ≡ Closes → ⊥) → (if c then Closes else y) ≡ Closes → (if c then Closes else z) ≡ Closes
@@ -153,7 +165,8 @@ later_inside (Ok r) bytes n h =
     let pair : List ℕ × ℕ = (r.0, suc r.1) in let want : List ℕ × ℕ = (bytes, n) in let same : pair ≡ want = cc in
     (r.1, sym (ap (λ z. z.1) same), ap (λ z. Ok (z, r.1)) (ap (λ z. z.0) same))
 
-meaning_inside : (v : ℕ) (x : Read) (bytes : List ℕ) (n : ℕ) → meaning v x ≡ Ok (bytes, n) → (m : ℕ) × (bs : List ℕ) × (n ≡ suc m) × (bytes ≡ v ∷ bs) × (x ≡ Ok (bs, m))
+meaning_inside : (v : ℕ) (x : Read) (bytes : List ℕ) (n : ℕ) → meaning v x ≡ Ok (bytes, n) → (m : ℕ) × (bs : List ℕ) × (n ≡ suc m) × (bytes ≡ v ∷ bs)
+    × (x ≡ Ok (bs, m))
 meaning_inside v (Err e) bytes n h = cc
 meaning_inside v (Ok r) bytes n h =
     let pair : List ℕ × ℕ = (v ∷ r.0, suc r.1) in let want : List ℕ × ℕ = (bytes, n) in let same : pair ≡ want = cc in
@@ -166,16 +179,19 @@ element_closes quote b bs e = closes_by (b == quote) _ _ (behind_open b bs) e
 abbrev Behind : ℕ → Element → List ℕ → Type 0
 Behind quote e bs = (bytes : List ℕ) (n s a : ℕ) → literal quote s a (bytes_behind e) bs ≡ Ok (bytes, n) → Whole quote (bytes_behind e) bs bytes n
 
-whole_of : (quote skip : ℕ) (text bytes bytes' : List ℕ) (n n' : ℕ) → n ≡ n' → bytes ≡ bytes' → n' ≤ length text → skip < n' → ((s a : ℕ) → literal quote s a skip (take n' text) ≡ Ok (bytes', n')) → Whole quote skip text bytes n
+whole_of : (quote skip : ℕ) (text bytes bytes' : List ℕ) (n n' : ℕ) → n ≡ n' → bytes ≡ bytes' → n' ≤ length text → skip < n'
+    → ((s a : ℕ) → literal quote s a skip (take n' text) ≡ Ok (bytes', n')) → Whole quote skip text bytes n
 whole_of quote skip text bytes bytes' n n' e f h k all = (omega arith, omega arith, λ s a. (rw (e, f) (all s a)))
 
-whole_at : (quote s a b : ℕ) (bs bytes : List ℕ) (n : ℕ) (e : Element) → element quote (b ∷ bs) ≡ e → Behind quote e bs → read s a e (literal quote s (a + 1) (bytes_behind e) bs) ≡ Ok (bytes, n) → Whole quote 0 (b ∷ bs) bytes n
+whole_at : (quote s a b : ℕ) (bs bytes : List ℕ) (n : ℕ) (e : Element) → element quote (b ∷ bs) ≡ e → Behind quote e bs
+    → read s a e (literal quote s (a + 1) (bytes_behind e) bs) ≡ Ok (bytes, n) → Whole quote 0 (b ∷ bs) bytes n
 whole_at quote s a b bs bytes n (Means v j) el rest h =
     let x = meaning_inside v (literal quote s (a + 1) (j - 1) bs) bytes n h in
     let w = rest x.1 x.0 s (a + 1) x.4 in
     let short = element_short quote b bs x.0 v j el (omega (arith, w.1)) in
     let all : (s' a' : ℕ) → literal quote s' a' 0 (b ∷ take x.0 bs) ≡ Ok (v ∷ x.1, suc x.0) = λ s' a'.
-    (subst (λ z. read s' a' z (literal quote s' (a' + 1) (bytes_behind z) (take x.0 bs)) ≡ Ok (v ∷ x.1, suc x.0)) (sym short) (ap (meaning v) (w.2 s' (a' + 1)))) in
+    (subst (λ z. read s' a' z (literal quote s' (a' + 1) (bytes_behind z) (take x.0 bs)) ≡ Ok (v ∷ x.1, suc x.0)) (sym short)
+    (ap (meaning v) (w.2 s' (a' + 1)))) in
     whole_of quote 0 (b ∷ bs) bytes (v ∷ x.1) n (suc x.0) x.2 x.3 (omega (arith, w.0)) (omega arith) all
 whole_at quote s a b bs bytes n Closes el rest h =
     let pair : List ℕ × ℕ = ([], 1) in let want : List ℕ × ℕ = (bytes, n) in let same : pair ≡ want = cc in
@@ -199,7 +215,8 @@ literal_whole quote s a zero (b ∷ bs) bytes n h =
 
 -- ---- a text
 
-pub at_quote : (b : ℕ) (bs : List ℕ) (c : ℕ) → class_of b ≡ c → c ≡ 3 → (q : Option Tok) (k : ℕ) → IsForm q (b ∷ take k bs) → Begins q c → (means : List ℕ) × (literal 34 0 1 0 (take k bs) ≡ Ok (means, length (take k bs)))
+pub at_quote : (b : ℕ) (bs : List ℕ) (c : ℕ) → class_of b ≡ c → c ≡ 3 → (q : Option Tok) (k : ℕ) → IsForm q (b ∷ take k bs) → Begins q c
+    → (means : List ℕ) × (literal 34 0 1 0 (take k bs) ≡ Ok (means, length (take k bs)))
 at_quote b bs c s e None k f (inl g) = absurd (omega arith)
 at_quote b bs c s e None k f (inr g) = absurd (omega arith)
 at_quote b bs c s e (Some (t.Word w)) k f g = absurd (omega arith)
@@ -234,7 +251,8 @@ text_longest s a b bs means n u e =
 
 -- ---- a character
 
-at_mark : (b : ℕ) (bs : List ℕ) (c : ℕ) → class_of b ≡ c → c ≡ 4 → (q : Option Tok) (k : ℕ) → IsForm q (b ∷ take k bs) → Begins q c → (means : List ℕ) × (literal 39 0 1 0 (take k bs) ≡ Ok (means, length (take k bs)))
+at_mark : (b : ℕ) (bs : List ℕ) (c : ℕ) → class_of b ≡ c → c ≡ 4 → (q : Option Tok) (k : ℕ) → IsForm q (b ∷ take k bs) → Begins q c
+    → (means : List ℕ) × (literal 39 0 1 0 (take k bs) ≡ Ok (means, length (take k bs)))
 at_mark b bs c s e None k f (inl g) = absurd (omega arith)
 at_mark b bs c s e None k f (inr g) = absurd (omega arith)
 at_mark b bs c s e (Some (t.Word w)) k f g = absurd (omega arith)
@@ -267,10 +285,13 @@ one b v j e = let x : 1 ≡ j = cc in omega arith
 
 pub element_some : (quote : ℕ) (text : List ℕ) (v j : ℕ) → element quote text ≡ Means v j → 1 ≤ j
 element_some quote [] v j e = cc
-element_some quote (b ∷ bs) v j e = some_by (b == quote) _ _ v j (λ z. (cc)) (some_by (b == 10) _ _ v j (λ z. (cc)) (some_by (b == 92) _ _ v j (escape_some bs v j) (some_by (is_control b) _ _ v j (λ z. (cc)) (one b v j)))) e
+element_some quote (b ∷ bs) v j e = some_by (b == quote) _ _ v j (λ z.
+    (cc)) (some_by (b == 10) _ _ v j (λ z. (cc)) (some_by (b == 92) _ _ v j (escape_some bs v j) (some_by (is_control b) _ _ v j (λ z. (cc)) (one b v j)))) e
 
-if_found : (c : Bool) (x : Option Tok) (n : ℕ) (good bad : Result (Option Tok × ℕ) LexError) (e : LexError) (found : Option Tok) (m : ℕ) → good ≡ Ok (x, n) → bad ≡ Err e → (if c then good else bad) ≡ Ok (found, m) → (c ≡ true) × (found ≡ x) × (m ≡ n)
-if_found true x n good bad e found m g f h = let pair : Option Tok × ℕ = (found, m) in let want : Option Tok × ℕ = (x, n) in let same : pair ≡ want = cc in (refl, ap (λ z. z.0) same, ap (λ z. z.1) same)
+if_found : (c : Bool) (x : Option Tok) (n : ℕ) (good bad : Result (Option Tok × ℕ) LexError) (e : LexError) (found : Option Tok) (m : ℕ) → good ≡ Ok (x, n)
+    → bad ≡ Err e → (if c then good else bad) ≡ Ok (found, m) → (c ≡ true) × (found ≡ x) × (m ≡ n)
+if_found true x n good bad e found m g f h = let pair : Option Tok × ℕ = (found, m) in let want : Option Tok × ℕ = (x, n) in let same : pair ≡ want =
+    cc in (refl, ap (λ z. z.0) same, ap (λ z. z.1) same)
 if_found false x n good bad e found m g f h = absurd (cc)
 
 pub character_by : (start : ℕ) (inside : List ℕ) (e : Element) (found : Option Tok) (m : ℕ) → character_of start inside e ≡ Ok (found, m) →
@@ -296,7 +317,8 @@ closed s a text n e = rw (drop-cons text n 0 (present text n e), e) refl
 
 character_read : (inside : List ℕ) (v n : ℕ) → element 39 inside ≡ Means v n → get_or inside n 0 ≡ 39 → literal 39 0 1 0 inside ≡ Ok (v ∷ [], n + 1)
 character_read inside v n e h =
-    one_element 39 0 1 v n inside e (omega (arith, element_some 39 inside v n e)) (omega (arith, present inside n h)) ∙ ap (behind (v ∷ []) n) (closed 0 (1 + n) inside n h)
+    one_element 39 0 1 v n inside e (omega (arith, element_some 39 inside v n e)) (omega (arith, present inside n h))
+    ∙ ap (behind (v ∷ []) n) (closed 0 (1 + n) inside n h)
 
 -- the character that is found is the longest form
 pub character_longest : (start b : ℕ) (bs : List ℕ) (found : Option Tok) (m : ℕ) → b ≡ 39 → character start bs ≡ Ok (found, m) → IsLongest found m (b ∷ bs)
@@ -305,6 +327,7 @@ character_longest start b bs found m u h =
     let quote = equal_of (get_or bs x.1 0) 39 x.3 in
     let e = character_read bs x.0 x.1 x.2 quote in
     let w = literal_whole 39 0 1 0 bs (x.0 ∷ []) (x.1 + 1) e in
-    let longest : IsLongest (Some (t.Char x.0)) (suc (x.1 + 1)) (b ∷ bs) = (omega (arith, w.0), omega arith, quoted 39 b bs (x.0 ∷ []) (x.1 + 1) u w, character_no_longer b bs (x.0 ∷ []) (x.1 + 1) u e) in
+    let longest : IsLongest (Some (t.Char x.0)) (suc (x.1 + 1)) (b ∷ bs) =
+    (omega (arith, w.0), omega arith, quoted 39 b bs (x.0 ∷ []) (x.1 + 1) u w, character_no_longer b bs (x.0 ∷ []) (x.1 + 1) u e) in
     let len : suc (x.1 + 1) ≡ m = omega (arith, x.5) in
     subst (λ z. IsLongest z m (b ∷ bs)) (sym x.4) (subst (λ z. IsLongest (Some (t.Char x.0)) z (b ∷ bs)) len longest)

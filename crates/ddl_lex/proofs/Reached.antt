@@ -1,5 +1,6 @@
 -- A text is cut in one way: what is reached after so many pieces is told by the text.
-use Rattle.std.proofs.Common.{◌≡◌, ◌≢◌, ◌<◌, ◌⊎◌, ℕ, zero, suc, ◌+◌, ◌-◌, nat_lt, Bool, true, false, List, [], length, Option, Some, None, Ok, Err, inl, inr, refl, ap, sym, subst, ◌∙◌, arith, if◌then◌else◌}
+use Rattle.std.proofs.Common.{◌≡◌, ◌≢◌, ◌<◌, ◌⊎◌, ℕ, zero, suc, ◌+◌, ◌-◌, nat_lt, Bool, true, false, List, [], length, Option, Some, None, Ok, Err, inl, inr}
+use Rattle.std.proofs.Common.{refl, ap, sym, subst, ◌∙◌, arith, if◌then◌else◌}
 use Rattle.std.proofs.lemmas.Bool.{lt-ltb, ltb-true}
 use Rattle.ddl_token.specs.declared.token.Tok.{Tok}
 use Rattle.ddl_token.specs.declared.token.Token.{Token}
@@ -62,14 +63,16 @@ compare (suc a) (suc b) = elim (compare a b) as (λ _. (suc a < suc b) ⊎ ((suc
   | inr y ↦ elim y as (λ _. (suc a < suc b) ⊎ ((suc a ≡ suc b) ⊎ (suc b < suc a))) [ inl x ↦ inr (inl (ap suc x)) | inr x ↦ inr (inr (omega arith)) ]
 ]
 
-same_number : (text : List ℕ) (k j : ℕ) (s t : State) → reached text k ≡ Some s → one_piece text (Some s) ≡ None → reached text j ≡ Some t → one_piece text (Some t) ≡ None →
+same_number : (text : List ℕ) (k j : ℕ) (s t : State) → reached text k ≡ Some s → one_piece text (Some s) ≡ None → reached text j ≡ Some t
+    → one_piece text (Some t) ≡ None →
     (k < j) ⊎ ((k ≡ j) ⊎ (j < k)) → k ≡ j
 same_number text k j s t e n f m (inl x) = absurd (not_before text k j s t e n f x)
 same_number text k j s t e n f m (inr (inl x)) = x
 same_number text k j s t e n f m (inr (inr x)) = absurd (not_before text j k t s f m e x)
 
 -- it ends in one state
-one_end : (text : List ℕ) (tokens others : List Token) (at to : ℕ) → Cut text tokens at → one_piece text (Some (tokens, at)) ≡ None → Cut text others to → one_piece text (Some (others, to)) ≡ None →
+one_end : (text : List ℕ) (tokens others : List Token) (at to : ℕ) → Cut text tokens at → one_piece text (Some (tokens, at)) ≡ None → Cut text others to
+    → one_piece text (Some (others, to)) ≡ None →
     (tokens ≡ others) × (at ≡ to)
 one_end text tokens others at to c n d m =
     let x = cut_reached text tokens at c in
@@ -89,7 +92,8 @@ at_end : (text : List ℕ) (tokens : List Token) → one_piece text (Some (token
 at_end text tokens = rw (not_less (length text) (length text) (nat_lt (length text) (length text)) refl (λ h. (omega arith))) refl
 
 -- it ends where there is an error
-at_error : (text : List ℕ) (tokens : List Token) (at : ℕ) (e : LexError) → at < length text → stands text tokens at ≡ Err e → one_piece text (Some (tokens, at)) ≡ None
+at_error : (text : List ℕ) (tokens : List Token) (at : ℕ) (e : LexError) → at < length text → stands text tokens at ≡ Err e
+    → one_piece text (Some (tokens, at)) ≡ None
 at_error text tokens at e h f = rw (lt-ltb at (length text) h) (ap (behind_found text (tokens, at)) f)
 
 -- an error other than want of memory has its place

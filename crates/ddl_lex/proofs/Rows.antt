@@ -31,7 +31,13 @@ closed_before c = let x = comment_counted (codes "-}-}") c.2 in cc
 
 -- "a\n" and '\''
 text : IsLiteral 34 (97 ∷ 10 ∷ []) (34 ∷ 97 ∷ 92 ∷ 110 ∷ 34 ∷ [])
-text = (97 ∷ 92 ∷ 110 ∷ [], refl, one_more {bytes = 97 ∷ []} {means = 10 ∷ []} {others = 92 ∷ 110 ∷ []} 97 (plain 97 (λ e. (omega arith)) (λ e. (omega arith)) refl) (one_more {bytes = 92 ∷ 110 ∷ []} {means = []} {others = []} 10 (escape newline) none))
+text = (
+  97 ∷ 92 ∷ 110 ∷ [],
+  refl,
+  one_more {bytes = 97 ∷ []} {means = 10 ∷ []} {others =
+      92 ∷ 110 ∷ []} 97 (plain 97 (λ e. (omega arith)) (λ e. (omega arith)) refl)
+      (one_more {bytes = 92 ∷ 110 ∷ []} {means = []} {others = []} 10 (escape newline) none),
+)
 
 character : IsLiteral 39 (39 ∷ []) (39 ∷ 92 ∷ 39 ∷ 39 ∷ [])
 character = (92 ∷ 39 ∷ [], refl, one_more {bytes = 92 ∷ 39 ∷ []} {means = []} {others = []} 39 (escape single_quote) none)

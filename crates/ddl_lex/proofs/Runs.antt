@@ -9,7 +9,8 @@ run_most p [] k h a = omega arith
 run_most p (b ∷ bs) zero h a = omega arith
 run_most p (b ∷ bs) (suc k) h a = rw a.0 (let i = run_most p bs k (omega arith) a.1 in omega arith)
 
-passes_at : (p : ℕ → Bool) (b : ℕ) (bs : List ℕ) (v : Bool) → p b ≡ v → AllPass p (take (run p bs) bs) → AllPass p (take (if v then suc (run p bs) else 0) (b ∷ bs))
+passes_at : (p : ℕ → Bool) (b : ℕ) (bs : List ℕ) (v : Bool) → p b ≡ v → AllPass p (take (run p bs) bs)
+    → AllPass p (take (if v then suc (run p bs) else 0) (b ∷ bs))
 passes_at p b bs true e a = (e, a)
 passes_at p b bs false e a = tt
 

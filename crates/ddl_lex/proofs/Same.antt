@@ -1,5 +1,6 @@
 -- The same bytes are one form, and the longest form at a place is one.
-use Rattle.std.proofs.Common.{◌≡◌, ◌≤◌, ◌<◌, ℕ, zero, suc, true, false, List, [], ◌∷◌, length, take, get_or, Option, Some, None, Result, Ok, refl, ap, sym, subst, ◌∙◌, arith}
+use Rattle.std.proofs.Common.{◌≡◌, ◌≤◌, ◌<◌, ℕ, zero, suc, true, false, List, [], ◌∷◌, length, take, get_or, Option, Some, None, Result, Ok, refl, ap, sym}
+use Rattle.std.proofs.Common.{subst, ◌∙◌, arith}
 use Rattle.ddl_token.specs.declared.word.Word.{Word}
 use Rattle.ddl_token.specs.declared.word.Word.TheVariants as w
 use Rattle.ddl_token.specs.declared.mark.Mark.{Mark}
@@ -108,7 +109,8 @@ second : (x y : ℕ) (ds es : List ℕ) → 48 ∷ x ∷ ds ≡ 48 ∷ y ∷ es 
 second x y ds es e = ap (λ z. get_or z 1 0) e
 
 -- a number of one base is told by its digits
-same_digits : (base : Base) (v w m n : ℕ) (ds es : List ℕ) → ds ≡ es → m ≡ length ds → n ≡ length es → v ≡ value_behind (radix base) 0 ds → w ≡ value_behind (radix base) 0 es →
+same_digits : (base : Base) (v w m n : ℕ) (ds es : List ℕ) → ds ≡ es → m ≡ length ds → n ≡ length es → v ≡ value_behind (radix base) 0 ds
+    → w ≡ value_behind (radix base) 0 es →
     Some (t.Number v base m) ≡ Some (t.Number w base n)
 same_digits base v w m n ds es e f g h k =
     let values : v ≡ w = h ∙ ap (value_behind (radix base) 0) e ∙ sym k in
@@ -131,7 +133,8 @@ same_number Binary Binary v w m n bytes x y = same_digits Binary v w m n x.0 y.0
 
 -- what is read is one
 same_read : (x : Result (List ℕ × ℕ) LexError) (bytes others : List ℕ) (n m : ℕ) → x ≡ Ok (bytes, n) → x ≡ Ok (others, m) → bytes ≡ others
-same_read x bytes others n m e f = let pair : List ℕ × ℕ = (bytes, n) in let want : List ℕ × ℕ = (others, m) in let same : pair ≡ want = cc in ap (λ z. z.0) same
+same_read x bytes others n m e f = let pair : List ℕ × ℕ = (bytes, n) in let want : List ℕ × ℕ = (others, m) in let same : pair ≡ want =
+    cc in ap (λ z. z.0) same
 
 -- the same bytes are one form
 same_by : (p q : Option Tok) (b : ℕ) (bs : List ℕ) → sort p ≡ sort q → IsForm p (b ∷ bs) → IsForm q (b ∷ bs) → p ≡ q
@@ -143,9 +146,11 @@ same_by (Some (t.Lower x)) (Some (t.Lower y)) b bs k f g = ap (λ z. Some (t.Low
 same_by (Some (t.Class x)) (Some (t.Class y)) b bs k f g = ap (λ z. Some (t.Class z)) (f.0 ∙ sym g.0)
 same_by (Some (t.Number v x m)) (Some (t.Number w y n)) b bs k f g = same_number x y v w m n (b ∷ bs) f g
 same_by (Some (t.Char x)) (Some (t.Char y)) b bs k f g =
-    ap (λ z. Some (t.Char (get_or z 0 0))) (same_read (literal 39 0 1 0 bs) (x ∷ []) (y ∷ []) (length bs) (length bs) (literal_read 39 b bs (x ∷ []) (λ z. (omega arith)) f).1 (literal_read 39 b bs (y ∷ []) (λ z. (omega arith)) g).1)
+    ap (λ z. Some (t.Char (get_or z 0 0))) (same_read (literal 39 0 1 0 bs) (x ∷ []) (y ∷ []) (length bs) (length bs)
+    (literal_read 39 b bs (x ∷ []) (λ z. (omega arith)) f).1 (literal_read 39 b bs (y ∷ []) (λ z. (omega arith)) g).1)
 same_by (Some (t.Text x)) (Some (t.Text y)) b bs k f g =
-    ap (λ z. Some (t.Text z)) (same_read (literal 34 0 1 0 bs) x y (length bs) (length bs) (literal_read 34 b bs x (λ z. (omega arith)) f).1 (literal_read 34 b bs y (λ z. (omega arith)) g).1)
+    ap (λ z. Some (t.Text z)) (same_read (literal 34 0 1 0 bs) x y (length bs) (length bs) (literal_read 34 b bs x (λ z. (omega arith)) f).1
+    (literal_read 34 b bs y (λ z. (omega arith)) g).1)
 same_by p q b bs k f g = absurd (omega arith)
 
 pub same_form : (p q : Option Tok) (b : ℕ) (bs : List ℕ) → IsForm p (b ∷ bs) → IsForm q (b ∷ bs) → p ≡ q

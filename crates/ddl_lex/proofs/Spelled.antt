@@ -20,17 +20,20 @@ test_spelling w ws bytes word false d e rest = rest e
 
 found_among : (ws : List Word) (bytes : List ℕ) (word : Word) → word_among ws bytes ≡ Some word → word_spelling word ≡ bytes
 found_among [] bytes word e = cc
-found_among (w ∷ ws) bytes word e = test_spelling w ws bytes word (bytes_eq (word_spelling w) bytes) (bytes_eq-Decides (word_spelling w) bytes).0 e (found_among ws bytes word)
+found_among (w ∷ ws) bytes word e = test_spelling w ws bytes word (bytes_eq (word_spelling w) bytes) (bytes_eq-Decides (word_spelling w) bytes).0 e
+    (found_among ws bytes word)
 
 test_none : (w : Word) (ws : List Word) (bytes : List ℕ) (word : Word) (v : Bool) → (word_spelling w ≡ bytes → v ≡ true) →
-    (if v then Some w else word_among ws bytes) ≡ None → (w ≡ word) ⊎ Among word ws → (word_among ws bytes ≡ None → Among word ws → word_spelling word ≢ bytes) → word_spelling word ≢ bytes
+    (if v then Some w else word_among ws bytes) ≡ None → (w ≡ word) ⊎ Among word ws → (word_among ws bytes ≡ None → Among word ws → word_spelling word ≢ bytes)
+    → word_spelling word ≢ bytes
 test_none w ws bytes word true d e a rest = λ s. (cc)
 test_none w ws bytes word false d e (inl same) rest = λ s. (let f : false ≡ true = d (ap word_spelling same ∙ s) in cc)
 test_none w ws bytes word false d e (inr a) rest = rest e a
 
 not_among : (ws : List Word) (bytes : List ℕ) (word : Word) → word_among ws bytes ≡ None → Among word ws → word_spelling word ≢ bytes
 not_among [] bytes word e a = absurd a
-not_among (w ∷ ws) bytes word e a = test_none w ws bytes word (bytes_eq (word_spelling w) bytes) (bytes_eq-Decides (word_spelling w) bytes).1 e a (not_among ws bytes word)
+not_among (w ∷ ws) bytes word e a = test_none w ws bytes word (bytes_eq (word_spelling w) bytes) (bytes_eq-Decides (word_spelling w) bytes).1 e a
+    (not_among ws bytes word)
 
 every_word : (word : Word) → Among word words
 every_word w.Def = inl refl
@@ -55,12 +58,24 @@ every_word w.True = inr (inr (inr (inr (inr (inr (inr (inr (inr (inr (inr (inr (
 every_word w.False = inr (inr (inr (inr (inr (inr (inr (inr (inr (inr (inr (inr (inr (inr (inr (inr (inr (inr (inr (inl refl)))))))))))))))))))
 every_word w.Just = inr (inr (inr (inr (inr (inr (inr (inr (inr (inr (inr (inr (inr (inr (inr (inr (inr (inr (inr (inr (inl refl))))))))))))))))))))
 every_word w.Nothing = inr (inr (inr (inr (inr (inr (inr (inr (inr (inr (inr (inr (inr (inr (inr (inr (inr (inr (inr (inr (inr (inl refl)))))))))))))))))))))
-every_word w.First = inr (inr (inr (inr (inr (inr (inr (inr (inr (inr (inr (inr (inr (inr (inr (inr (inr (inr (inr (inr (inr (inr (inl refl))))))))))))))))))))))
-every_word w.Choose = inr (inr (inr (inr (inr (inr (inr (inr (inr (inr (inr (inr (inr (inr (inr (inr (inr (inr (inr (inr (inr (inr (inr (inl refl)))))))))))))))))))))))
-every_word w.Many = inr (inr (inr (inr (inr (inr (inr (inr (inr (inr (inr (inr (inr (inr (inr (inr (inr (inr (inr (inr (inr (inr (inr (inr (inl refl))))))))))))))))))))))))
-every_word w.ManyAll = inr (inr (inr (inr (inr (inr (inr (inr (inr (inr (inr (inr (inr (inr (inr (inr (inr (inr (inr (inr (inr (inr (inr (inr (inr (inl refl)))))))))))))))))))))))))
-every_word w.Optional = inr (inr (inr (inr (inr (inr (inr (inr (inr (inr (inr (inr (inr (inr (inr (inr (inr (inr (inr (inr (inr (inr (inr (inr (inr (inr (inl refl))))))))))))))))))))))))))
-every_word w.OptionalAll = inr (inr (inr (inr (inr (inr (inr (inr (inr (inr (inr (inr (inr (inr (inr (inr (inr (inr (inr (inr (inr (inr (inr (inr (inr (inr (inr (inl refl)))))))))))))))))))))))))))
+every_word w.First =
+    inr (inr (inr (inr (inr (inr (inr (inr (inr (inr (inr (inr (inr (inr (inr (inr (inr (inr (inr (inr (inr (inr (inl refl))))))))))))))))))))))
+every_word w.Choose =
+    inr (inr (inr (inr (inr (inr (inr (inr (inr (inr (inr (inr (inr (inr (inr (inr (inr (inr (inr (inr (inr (inr (inr (inl refl)))))))))))))))))))))))
+every_word w.Many =
+    inr (inr (inr (inr (inr (inr (inr (inr (inr (inr (inr (inr (inr (inr (inr (inr (inr (inr (inr (inr (inr (inr (inr (inr (inl refl))))))))))))))))))))))))
+every_word w.ManyAll =
+    inr
+    (inr (inr (inr (inr (inr (inr (inr (inr (inr (inr (inr (inr (inr (inr (inr (inr (inr (inr (inr (inr (inr (inr (inr (inr (inl refl)))))))))))))))))))))))))
+every_word w.Optional =
+    inr
+    (inr
+    (inr (inr (inr (inr (inr (inr (inr (inr (inr (inr (inr (inr (inr (inr (inr (inr (inr (inr (inr (inr (inr (inr (inr (inr (inl refl))))))))))))))))))))))))))
+every_word w.OptionalAll =
+    inr
+    (inr
+    (inr
+    (inr (inr (inr (inr (inr (inr (inr (inr (inr (inr (inr (inr (inr (inr (inr (inr (inr (inr (inr (inr (inr (inr (inr (inr (inl refl)))))))))))))))))))))))))))
 
 -- what is found has these bytes
 pub word_found : (bytes : List ℕ) (word : Word) → word_of bytes ≡ Some word → word_spelling word ≡ bytes

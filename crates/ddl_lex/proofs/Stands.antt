@@ -1,5 +1,6 @@
 -- A piece that is cut is what stands at its place.
-use Rattle.std.proofs.Common.{◌≡◌, ◌<◌, ◌⊎◌, ℕ, zero, suc, ◌||◌, ◌==◌, ◌^◌, Bool, true, false, List, ◌∷◌, length, take, drop, get_or, Option, Some, None, Ok, Err, inl, inr, refl, ap, sym, subst, ◌∙◌, arith}
+use Rattle.std.proofs.Common.{◌≡◌, ◌<◌, ◌⊎◌, ℕ, zero, suc, ◌||◌, ◌==◌, ◌^◌, Bool, true, false, List, ◌∷◌, length, take, drop, get_or, Option, Some, None, Ok}
+use Rattle.std.proofs.Common.{Err, inl, inr, refl, ap, sym, subst, ◌∙◌, arith}
 use Rattle.std.proofs.Math.Seq.{drop-cons}
 use Rattle.ddl_token.specs.declared.token.Tok.{Tok}
 use Rattle.ddl_token.specs.declared.token.Token.{Token}
@@ -52,7 +53,8 @@ no_token : (b : ℕ) → Begins None (class_of b) → begins_token b ≡ false
 no_token b g = false_by (begins_token b) (λ h. no_token_by (class_of b) g (token_class b (either (b == 34 || b == 39) (is_decimal b) h)))
 
 -- what is found stands there, if there is room for it
-room_by : (full : Bool) (at b : ℕ) (text : List ℕ) (found : Option Tok) (n : ℕ) → piece at b text ≡ Ok (found, n) → (full ≡ true → (found ≡ None) × (begins_token b ≡ false)) → next_piece full at b text ≡ Ok (found, n)
+room_by : (full : Bool) (at b : ℕ) (text : List ℕ) (found : Option Tok) (n : ℕ) → piece at b text ≡ Ok (found, n)
+    → (full ≡ true → (found ≡ None) × (begins_token b ≡ false)) → next_piece full at b text ≡ Ok (found, n)
 unfolding next_piece
 room_by false at b text None n h room = rw h refl
 room_by false at b text (Some tok) n h room = rw h refl
@@ -70,13 +72,15 @@ starts : (found : Option Tok) (n b : ℕ) (bs : List ℕ) → IsRight found n (b
 starts found zero b bs r e = absurd (omega (arith, r.0.1))
 starts found (suc n) b bs r e = no_token b (subst (λ z. Begins z (class_of b)) e (begins found b (take n bs) r.0.2))
 
-next_found : (tokens : List Token) (at b : ℕ) (bs : List ℕ) (found : Option Tok) (n : ℕ) → HasRoom tokens found → IsRight found n (b ∷ bs) → next_piece (is_full tokens) at b (b ∷ bs) ≡ Ok (found, n)
+next_found : (tokens : List Token) (at b : ℕ) (bs : List ℕ) (found : Option Tok) (n : ℕ) → HasRoom tokens found → IsRight found n (b ∷ bs)
+    → next_piece (is_full tokens) at b (b ∷ bs) ≡ Ok (found, n)
 next_found tokens at b bs found n room right =
     room_by (is_full tokens) at b (b ∷ bs) found n (piece_found at b bs found n right)
     (λ h. (let none = room_none tokens found room h in (none, starts found n b bs right none)))
 
 -- a piece that is cut stands there
-pub stands_right : (text : List ℕ) (tokens : List Token) (at : ℕ) (found : Option Tok) (n : ℕ) → at < length text → IsPiece text tokens at found n → stands text tokens at ≡ Ok (found, n)
+pub stands_right : (text : List ℕ) (tokens : List Token) (at : ℕ) (found : Option Tok) (n : ℕ) → at < length text → IsPiece text tokens at found n
+    → stands text tokens at ≡ Ok (found, n)
 stands_right text tokens at found n h p =
     let b = get_or text at 0 in
     let rest : drop at text ≡ b ∷ drop (suc at) text = drop-cons text at 0 h in

@@ -1,5 +1,6 @@
 -- The error that is told at a place is what is wrong there.
-use Rattle.std.proofs.Common.{◌≡◌, ◌≢◌, ◌<◌, ◌≤◌, ℕ, zero, suc, ◌+◌, ◌==◌, ◌^◌, nat_lt, true, false, List, [], ◌∷◌, ◌++◌, length, take, drop, get_or, Option, Some, None, Result, Ok, Err, refl, ap, sym, subst, ◌∙◌, arith}
+use Rattle.std.proofs.Common.{◌≡◌, ◌≢◌, ◌<◌, ◌≤◌, ℕ, zero, suc, ◌+◌, ◌==◌, ◌^◌, nat_lt, true, false, List, [], ◌∷◌, ◌++◌, length, take, drop, get_or, Option}
+use Rattle.std.proofs.Common.{Some, None, Result, Ok, Err, refl, ap, sym, subst, ◌∙◌, arith}
 use Rattle.std.proofs.lemmas.Bool.Decides.{nat_tests}
 use Rattle.ddl_token.specs.declared.mark.Mark.{Mark}
 use Rattle.ddl_token.specs.declared.mark.Mark.TheVariants as m
@@ -36,7 +37,8 @@ no_comment b bs (suc zero) c i = i
 no_comment b [] (suc (suc k)) c i = i
 no_comment b (d ∷ ds) (suc (suc k)) c i = let x = comment_more 0 0 ds k (length (take k ds)) (comment_counted (take k ds) i.2) in cc
 
-comment_told : (at b : ℕ) (bs : List ℕ) (e : LexError) (o : Option ℕ) → begins_with 123 45 (b ∷ bs) ≡ true → comment 0 0 (drop 1 bs) ≡ o → opened at o ≡ Err e → IsWrong at (b ∷ bs) e
+comment_told : (at b : ℕ) (bs : List ℕ) (e : LexError) (o : Option ℕ) → begins_with 123 45 (b ∷ bs) ≡ true → comment 0 0 (drop 1 bs) ≡ o → opened at o ≡ Err e
+    → IsWrong at (b ∷ bs) e
 comment_told at b bs e None h c f = wrong_as at (b ∷ bs) (OpenText at) e (cc) (open_comment h (λ n i. no_comment b bs n c i))
 comment_told at b bs e (Some n) h c f = cc
 
@@ -63,13 +65,15 @@ number_told at b bs e d h =
     let bad : Found = Err (NumberTooWide at) in
     let r : Found = Err e in
     by_test (nat_lt value (2 ^ 128)) good bad r (IsWrong at text e) h (λ v f. (cc))
-    (λ v f. wrong_as at text (NumberTooWide at) e (cc) (wide_number value base n (extent base text) (digits_longest b bs d (decimal_class b d)) (not_less value (2 ^ 128) v)))
+    (λ v f. wrong_as at text (NumberTooWide at) e (cc) (wide_number value base n (extent base text) (digits_longest b bs d (decimal_class b d))
+    (not_less value (2 ^ 128) v)))
 
 no_form_at : (b : ℕ) (bs : List ℕ) → IsSign b bs → mark_of (b ∷ bs) ≡ None → NoForm (b ∷ bs)
 no_form_at b bs i m found zero s h f = omega arith
 no_form_at b bs i m found (suc k) s h f = nothing_begins b bs i m found k (omega arith) f
 
-mark_told : (at b : ℕ) (bs : List ℕ) (e : LexError) (o : Option Mark) → IsSign b bs → (b == 34) ≡ false → (b == 39) ≡ false → mark_of (b ∷ bs) ≡ o → marked at o ≡ Err e → IsWrong at (b ∷ bs) e
+mark_told : (at b : ℕ) (bs : List ℕ) (e : LexError) (o : Option Mark) → IsSign b bs → (b == 34) ≡ false → (b == 39) ≡ false → mark_of (b ∷ bs) ≡ o
+    → marked at o ≡ Err e → IsWrong at (b ∷ bs) e
 mark_told at b bs e None i q p m h = wrong_as at (b ∷ bs) (BadByte at) e (cc) (no_form (not_equal b 34 q) (not_equal b 39 p) (no_form_at b bs i m))
 mark_told at b bs e (Some k) i q p m h = cc
 
@@ -102,7 +106,8 @@ no_end : (ds : List ℕ) (o : Option ℕ) → comment 0 0 ds ≡ o → ((n : ℕ
 no_end ds None c h = refl
 no_end ds (Some n) c h = absurd (h n (counted_comment ds n c))
 
-open_told : (at b : ℕ) (bs : List ℕ) → begins_with 123 45 (b ∷ bs) ≡ true → ((n : ℕ) → IsComment (take n (b ∷ bs)) → ⊥) → piece at b (b ∷ bs) ≡ Err (OpenText at)
+open_told : (at b : ℕ) (bs : List ℕ) → begins_with 123 45 (b ∷ bs) ≡ true → ((n : ℕ) → IsComment (take n (b ∷ bs)) → ⊥)
+    → piece at b (b ∷ bs) ≡ Err (OpenText at)
 open_told at b bs h n =
     let z = two_bytes 123 45 b bs h in
     let ds = z.1 in
@@ -143,7 +148,8 @@ only_wide at b bs e c n (no_form q p f) = absurd (n f)
 too_wide : (value : ℕ) (base : Base) (digits : ℕ) (found : Option Tok) → found ≡ Some (t.Number value base digits) → Fits found → 2 ^ 128 ≤ value → ⊥
 too_wide value base digits found e f w = let x : value < 2 ^ 128 = subst Fits e f in omega (arith, x, w)
 
-wide_by : (at b : ℕ) (bs : List ℕ) (value : ℕ) (base : Base) (digits n : ℕ) (r : Found) → piece at b (b ∷ bs) ≡ r → IsLongest (Some (t.Number value base digits)) n (b ∷ bs) → 2 ^ 128 ≤ value → r ≡ Err (NumberTooWide at)
+wide_by : (at b : ℕ) (bs : List ℕ) (value : ℕ) (base : Base) (digits n : ℕ) (r : Found) → piece at b (b ∷ bs) ≡ r
+    → IsLongest (Some (t.Number value base digits)) n (b ∷ bs) → 2 ^ 128 ≤ value → r ≡ Err (NumberTooWide at)
 wide_by at b bs value base digits n (Ok x) p l w =
     let right = piece_right at b bs x.0 x.1 p in
     let same = one_longest x.0 (Some (t.Number value base digits)) x.1 n b bs right.0 l in
@@ -156,7 +162,8 @@ brace_form : (b : ℕ) (bs : List ℕ) → b ≡ 123 → IsForm (Some (t.Mark m.
 brace_form b bs u = ap (λ z. z ∷ []) u
 
 only_none : (at b : ℕ) (bs : List ℕ) (e : LexError) → b ≢ 34 → b ≢ 39 → NoForm (b ∷ bs) → IsWrong at (b ∷ bs) e → e ≡ BadByte at
-only_none at b bs e q p n (open_comment h i) = absurd (n (Some (t.Mark m.OpenBrace)) 1 (omega arith) (omega arith) (brace_form b bs (two_bytes 123 45 b bs h).3))
+only_none at b bs e q p n (open_comment h i) = absurd (n (Some (t.Mark m.OpenBrace)) 1 (omega arith) (omega arith)
+    (brace_form b bs (two_bytes 123 45 b bs h).3))
 only_none at b bs e q p n (broken_text means inside rest same i k) = absurd (q (first_byte b 34 bs (inside ++ rest) same))
 only_none at b bs e q p n (broken_character rest same k) = absurd (p (first_byte b 39 bs rest same))
 only_none at b bs e q p n (no_byte rest same) = absurd (p (first_byte b 39 bs (39 ∷ rest) same))
@@ -172,9 +179,11 @@ none_by at b bs (Err e) h q p n = ap Err (only_none at b bs e q p n (piece_told 
 pub wrong_told : (at b : ℕ) (bs : List ℕ) (e : LexError) → IsWrong at (b ∷ bs) e → piece at b (b ∷ bs) ≡ Err e
 wrong_told at b bs e (open_comment h n) = open_told at b bs h n
 wrong_told at b bs e (broken_text means inside rest same i k) =
-    moved at b bs (34 ∷ inside ++ rest) same ∙ text_piece at (inside ++ rest) e (broken_behind_read 34 at (at + 1) means inside rest e (refl, λ z. (omega arith)) i k)
+    moved at b bs (34 ∷ inside ++ rest) same ∙ text_piece at (inside ++ rest) e
+    (broken_behind_read 34 at (at + 1) means inside rest e (refl, λ z. (omega arith)) i k)
 wrong_told at b bs e (broken_character rest same k) = moved at b bs (39 ∷ rest) same ∙ character_piece at rest e (broken_character_read at rest e k)
 wrong_told at b bs e (no_byte rest same) = moved at b bs (39 ∷ 39 ∷ rest) same ∙ character_piece at (39 ∷ rest) (OpenText at) refl
-wrong_told at b bs e (open_character value inside rest same i n) = moved at b bs (39 ∷ inside ++ rest) same ∙ character_piece at (inside ++ rest) (OpenText at) (open_character_read at value inside rest i n)
+wrong_told at b bs e (open_character value inside rest same i n) = moved at b bs (39 ∷ inside ++ rest) same
+    ∙ character_piece at (inside ++ rest) (OpenText at) (open_character_read at value inside rest i n)
 wrong_told at b bs e (wide_number value base digits n l w) = wide_by at b bs value base digits n (piece at b (b ∷ bs)) refl l w
 wrong_told at b bs e (no_form q p n) = none_by at b bs (piece at b (b ∷ bs)) refl q p n

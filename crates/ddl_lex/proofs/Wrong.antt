@@ -1,5 +1,6 @@
 -- Where there is an error at a place, no form stands there that is right.
-use Rattle.std.proofs.Common.{◌≡◌, ℕ, zero, suc, ◌+◌, ◌==◌, true, List, [], ◌∷◌, length, take, drop, Option, Some, None, Result, Ok, Err, inl, inr, refl, ap, subst, arith}
+use Rattle.std.proofs.Common.{◌≡◌, ℕ, zero, suc, ◌+◌, ◌==◌, true, List, [], ◌∷◌, length, take, drop, Option, Some, None, Result, Ok, Err, inl, inr, refl, ap}
+use Rattle.std.proofs.Common.{subst, arith}
 use Rattle.ddl_token.specs.declared.mark.Mark.{Mark}
 use Rattle.ddl_token.specs.declared.token.Tok.{Tok}
 use Rattle.ddl_token.specs.declared.token.Tok.TheVariants as t
@@ -37,11 +38,13 @@ comment_at : (b d : ℕ) (ds : List ℕ) (n : ℕ) → b ≡ 123 → comment 0 0
 comment_at b d ds zero u c l = omega (arith, l.1)
 comment_at b d ds (suc n) u c l = comment_closed b d ds n u c l.2
 
-comment_none : (at b d : ℕ) (ds : List ℕ) (n : ℕ) (o : Option ℕ) (e : LexError) → b ≡ 123 → comment 0 0 ds ≡ o → opened at o ≡ Err e → IsLongest None n (b ∷ d ∷ ds) → ⊥
+comment_none : (at b d : ℕ) (ds : List ℕ) (n : ℕ) (o : Option ℕ) (e : LexError) → b ≡ 123 → comment 0 0 ds ≡ o → opened at o ≡ Err e
+    → IsLongest None n (b ∷ d ∷ ds) → ⊥
 comment_none at b d ds n None e u c h l = comment_at b d ds n u c l
 comment_none at b d ds n (Some m) e u c h l = cc
 
-comment_wrong : (at b : ℕ) (bs : List ℕ) (found : Option Tok) (n : ℕ) (e : LexError) → begins_with 123 45 (b ∷ bs) ≡ true → opened at (comment 0 0 (drop 1 bs)) ≡ Err e → IsRight found n (b ∷ bs) → ⊥
+comment_wrong : (at b : ℕ) (bs : List ℕ) (found : Option Tok) (n : ℕ) (e : LexError) → begins_with 123 45 (b ∷ bs) ≡ true
+    → opened at (comment 0 0 (drop 1 bs)) ≡ Err e → IsRight found n (b ∷ bs) → ⊥
 comment_wrong at b bs found n e c h r =
     let z = two_bytes 123 45 b bs c in
     let longest : IsLongest None n (b ∷ bs) = subst (λ x. IsLongest x n (b ∷ bs)) (r.1 c) r.0 in
@@ -55,13 +58,15 @@ text_read : (x : Result (List ℕ × ℕ) LexError) (means : List ℕ) (n : ℕ)
 text_read (Err z) means n e f h = cc
 text_read (Ok r) means n e f h = cc
 
-text_wrong : (at b : ℕ) (bs : List ℕ) (found : Option Tok) (n : ℕ) (e : LexError) → b ≡ 34 → text_token (literal 34 at (at + 1) 0 bs) ≡ Err e → IsLongest found n (b ∷ bs) → ⊥
+text_wrong : (at b : ℕ) (bs : List ℕ) (found : Option Tok) (n : ℕ) (e : LexError) → b ≡ 34 → text_token (literal 34 at (at + 1) 0 bs) ≡ Err e
+    → IsLongest found n (b ∷ bs) → ⊥
 text_wrong at b bs found zero e u h l = omega (arith, l.1)
 text_wrong at b bs found (suc k) e u h l =
     let x = at_quote b bs (class_of b) refl (ap class_of u) found k l.2 (begins found b (take k bs) l.2) in
     text_read (literal 34 at (at + 1) 0 bs) x.0 (length (take k bs)) e (literal_more 34 0 1 at (at + 1) 0 bs k (length (take k bs)) x.0 x.1) h
 
-at_character : (b : ℕ) (bs : List ℕ) (c : ℕ) → class_of b ≡ c → c ≡ 4 → (q : Option Tok) (k : ℕ) → IsForm q (b ∷ take k bs) → Begins q c → (x : ℕ) × (literal 39 0 1 0 (take k bs) ≡ Ok (x ∷ [], length (take k bs)))
+at_character : (b : ℕ) (bs : List ℕ) (c : ℕ) → class_of b ≡ c → c ≡ 4 → (q : Option Tok) (k : ℕ) → IsForm q (b ∷ take k bs) → Begins q c
+    → (x : ℕ) × (literal 39 0 1 0 (take k bs) ≡ Ok (x ∷ [], length (take k bs)))
 at_character b bs c s e None k f (inl g) = absurd (omega arith)
 at_character b bs c s e None k f (inr g) = absurd (omega arith)
 at_character b bs c s e (Some (t.Word w)) k f g = absurd (omega arith)
@@ -82,7 +87,8 @@ character_wrong at b bs found (suc k) e u h l =
 
 -- ---- a number that is too wide
 
-number_wrong : (at b : ℕ) (bs : List ℕ) (found : Option Tok) (n : ℕ) (e : LexError) → is_decimal b ≡ true → number at (b ∷ bs) ≡ Err e → IsRight found n (b ∷ bs) → ⊥
+number_wrong : (at b : ℕ) (bs : List ℕ) (found : Option Tok) (n : ℕ) (e : LexError) → is_decimal b ≡ true → number at (b ∷ bs) ≡ Err e
+    → IsRight found n (b ∷ bs) → ⊥
 number_wrong at b bs found n e d h r =
     let number = number_token (b ∷ bs) in
     let same = one_longest found (Some number) n (extent (base_of (b ∷ bs)) (b ∷ bs)) b bs r.0 (digits_longest b bs d (decimal_class b d)) in
@@ -90,7 +96,8 @@ number_wrong at b bs found n e d h r =
 
 -- ---- no form
 
-mark_wrong : (at b : ℕ) (bs : List ℕ) (found : Option Tok) (n : ℕ) (o : Option Mark) (e : LexError) → IsSign b bs → mark_of (b ∷ bs) ≡ o → marked at o ≡ Err e → IsLongest found n (b ∷ bs) → ⊥
+mark_wrong : (at b : ℕ) (bs : List ℕ) (found : Option Tok) (n : ℕ) (o : Option Mark) (e : LexError) → IsSign b bs → mark_of (b ∷ bs) ≡ o → marked at o ≡ Err e
+    → IsLongest found n (b ∷ bs) → ⊥
 mark_wrong at b bs found n (Some m) e i o h l = cc
 mark_wrong at b bs found zero None e i o h l = omega (arith, l.1)
 mark_wrong at b bs found (suc k) None e i o h l = no_form b bs i o found k (omega (arith, l.0)) l.2

@@ -1,5 +1,6 @@
 -- The inside of texts and characters.
-use Rattle.std.specs.Prelude.{ℕ, zero, suc, ◌+◌, ◌-◌, ◌*◌, ◌&&◌, ◌||◌, ◌==◌, if◌then◌else◌, List, [], ◌∷◌, length, ◌<◌, ◌≤◌, slice_index, Option, Some, Result, Ok, Err}
+use Rattle.std.specs.Prelude.{ℕ, zero, suc, ◌+◌, ◌-◌, ◌*◌, ◌&&◌, ◌||◌, ◌==◌, if◌then◌else◌, List, [], ◌∷◌, length, ◌<◌, ◌≤◌, slice_index, Option, Some, Result}
+use Rattle.std.specs.Prelude.{Ok, Err}
 use Rattle.ddl_token.specs.declared.token.Tok.{Tok}
 use Rattle.ddl_token.specs.declared.token.Tok.TheVariants.{Char}
 use Rattle.ddl_lex.specs.declared.error.LexError.{LexError}

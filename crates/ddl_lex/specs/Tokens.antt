@@ -27,7 +27,8 @@ HasRoom tokens (Some tok) = length tokens < 2 ^ 20
 -- What stands at a place behind these tokens: the longest form that begins there. Where `{-` opens a
 -- comment it is no token; a number's value fits; and there is room for a token.
 abbrev pub IsPiece : List ℕ → List Token → ℕ → Option Tok → ℕ → Type 0
-IsPiece text tokens at found n = IsLongest found n (drop at text) × (begins_with 123 45 (drop at text) ≡ true → found ≡ None) × Fits found × HasRoom tokens found
+IsPiece text tokens at found n = IsLongest found n (drop at text) × (begins_with 123 45 (drop at text) ≡ true → found ≡ None) × Fits found
+    × HasRoom tokens found
 
 -- The text up to a place is cut, front to back, into white bytes, comments and these tokens.
 pub data Cut : List ℕ → List Token → ℕ → Type 0 where

@@ -49,6 +49,8 @@ pub data IsWrong (at : ℕ) (text : List ℕ) : LexError → Type 0 where
       IsBroken at (at + 1 + length inside) behind e → IsWrong at text e
   broken_character : {e : LexError} (behind : List ℕ) → text ≡ 39 ∷ behind → IsBroken at (at + 1) behind e → IsWrong at text e
   no_byte : (behind : List ℕ) → text ≡ 39 ∷ 39 ∷ behind → IsWrong at text (OpenText at)
-  open_character : (value : ℕ) (inside behind : List ℕ) → text ≡ 39 ∷ inside ++ behind → IsElement 39 value inside → NoQuote behind → IsWrong at text (OpenText at)
-  wide_number : (value : ℕ) (base : Base) (digits n : ℕ) → IsLongest (Some (t.Number value base digits)) n text → 2 ^ 128 ≤ value → IsWrong at text (NumberTooWide at)
+  open_character : (value : ℕ) (inside behind : List ℕ) → text ≡ 39 ∷ inside ++ behind → IsElement 39 value inside → NoQuote behind
+      → IsWrong at text (OpenText at)
+  wide_number : (value : ℕ) (base : Base) (digits n : ℕ) → IsLongest (Some (t.Number value base digits)) n text → 2 ^ 128 ≤ value
+      → IsWrong at text (NumberTooWide at)
   no_form : slice_index text 0 ≢ 34 → slice_index text 0 ≢ 39 → NoForm text → IsWrong at text (BadByte at)

@@ -24,7 +24,8 @@ fn add(laid: &mut Vec<Token>, place: Place, mark: Mark) -> Result<(), NoMemory>
 
 /// Begins a list at a token, which is empty where the innermost list reaches the token.
 fn begin_list(laid: &mut Vec<Token>, stack: &mut Stack, place: Place) -> Result<(), NoMemory>
-    ensures added { OnOk result (laid.new.items ≡ laid.old.items ++ map (spec.mark_at place) (spec.begin_list place.column stack.old).0) }
+    ensures added { OnOk result (laid.new.items ≡ laid.old.items
+        ++ map (spec.mark_at place) (spec.begin_list place.column stack.old).0) }
     ensures open { OnOk result (stack.new ≡ (spec.begin_list place.column stack.old).1) }
 {
     add(laid, place, Mark::OpenBrace)?;
@@ -37,7 +38,8 @@ fn begin_list(laid: &mut Vec<Token>, stack: &mut Stack, place: Place) -> Result<
 
 /// Ends the lists of a greater column.
 fn end_deeper(laid: &mut Vec<Token>, stack: &mut Stack, place: Place) -> Result<(), NoMemory>
-    ensures added { OnOk result (laid.new.items ≡ laid.old.items ++ map (spec.mark_at place) (spec.end_deeper place.column stack.old).0) }
+    ensures added { OnOk result (laid.new.items ≡ laid.old.items
+        ++ map (spec.mark_at place) (spec.end_deeper place.column stack.old).0) }
     ensures open { OnOk result (stack.new ≡ (spec.end_deeper place.column stack.old).1) }
 {
     while let Some(column) = stack.column()
@@ -51,7 +53,8 @@ fn end_deeper(laid: &mut Vec<Token>, stack: &mut Stack, place: Place) -> Result<
 
 /// Ends the lists of a greater column, and begins an item in one of the same column.
 fn begin_line(laid: &mut Vec<Token>, stack: &mut Stack, place: Place) -> Result<(), NoMemory>
-    ensures added { OnOk result (laid.new.items ≡ laid.old.items ++ map (spec.mark_at place) (spec.begin_line place.column stack.old).0) }
+    ensures added { OnOk result (laid.new.items ≡ laid.old.items
+        ++ map (spec.mark_at place) (spec.begin_line place.column stack.old).0) }
     ensures open { OnOk result (stack.new ≡ (spec.begin_line place.column stack.old).1) }
 {
     end_deeper(laid, stack, place)?;
@@ -65,7 +68,8 @@ fn begin_line(laid: &mut Vec<Token>, stack: &mut Stack, place: Place) -> Result<
 
 /// Ends the lists inside the innermost bracket.
 fn end_inside(laid: &mut Vec<Token>, stack: &mut Stack, place: Place) -> Result<(), NoMemory>
-    ensures added { OnOk result (laid.new.items ≡ laid.old.items ++ map (spec.mark_at place) (spec.end_inside stack.old).0) }
+    ensures added { OnOk result (laid.new.items ≡ laid.old.items
+        ++ map (spec.mark_at place) (spec.end_inside stack.old).0) }
     ensures open { OnOk result (stack.new ≡ (spec.end_inside stack.old).1) }
 {
     while let Some(_) = stack.column() {
@@ -82,7 +86,8 @@ fn bracket(
     place: Place,
     role: Role,
 ) -> Result<(), NoMemory>
-    ensures added { OnOk result (laid.new.items ≡ laid.old.items ++ map (spec.mark_at place) (spec.bracket role stack.old).0) }
+    ensures added { OnOk result (laid.new.items ≡ laid.old.items
+        ++ map (spec.mark_at place) (spec.bracket role stack.old).0) }
     ensures open { OnOk result (stack.new ≡ (spec.bracket role stack.old).1) }
 {
     match role {
@@ -111,7 +116,8 @@ fn before(
     last: Option<Last>,
     token: &Token,
 ) -> Result<(), NoMemory>
-    ensures added { OnOk result (laid.new.items ≡ laid.old.items ++ map (spec.mark_at (spec.begin_of token.now)) (spec.before last token.now stack.old).0) }
+    ensures added { OnOk result (laid.new.items ≡ laid.old.items
+        ++ map (spec.mark_at (spec.begin_of token.now)) (spec.before last token.now stack.old).0) }
     ensures open { OnOk result (stack.new ≡ (spec.before last token.now stack.old).1) }
 {
     let place = begin_of(token);
@@ -129,7 +135,8 @@ fn rule_one(
     place: Place,
     begins: bool,
 ) -> Result<(), NoMemory>
-    ensures added { OnOk result (laid.new.items ≡ laid.old.items ++ map (spec.mark_at place) (spec.rule_one begins place.column stack.old).0) }
+    ensures added { OnOk result (laid.new.items ≡ laid.old.items
+        ++ map (spec.mark_at place) (spec.rule_one begins place.column stack.old).0) }
     ensures open { OnOk result (stack.new ≡ (spec.rule_one begins place.column stack.old).1) }
 {
     if begins {
@@ -146,7 +153,8 @@ fn rule_two(
     place: Place,
     follows: bool,
 ) -> Result<(), NoMemory>
-    ensures added { OnOk result (laid.new.items ≡ laid.old.items ++ map (spec.mark_at place) (spec.rule_two follows place.column stack.old).0) }
+    ensures added { OnOk result (laid.new.items ≡ laid.old.items
+        ++ map (spec.mark_at place) (spec.rule_two follows place.column stack.old).0) }
     ensures open { OnOk result (stack.new ≡ (spec.rule_two follows place.column stack.old).1) }
 {
     if follows {

@@ -1,4 +1,5 @@
-ghost use Rattle.std.specs.Prelude.{◌≡◌, ◌<◌, ◌≤◌, ◌+◌, ◌*◌, ◌^◌, length, IfOk, IfSome, IsNone, true, slice_index, take};
+ghost use Rattle.std.specs.Prelude.{◌≡◌, ◌<◌, ◌≤◌, ◌+◌, ◌*◌, ◌^◌, length, IfOk, IfSome, IsNone, true, slice_index};
+ghost use Rattle.std.specs.Prelude.{take};
 ghost use Rattle.ddl_lex.specs.Letters.{run, is_decimal};
 ghost use Rattle.ddl_lex.specs.Letters.{digit_value as digit_value'};
 ghost use Rattle.ddl_lex.specs.Numbers as numbers;

@@ -5,7 +5,9 @@ use Rattle.ddl_tree.specs.declared.kind.Kind.TheVariants.{Grammar, Value}
 use Rattle.ddl_arith.specs.declared.operation.Op.TheVariants.{Sub, Div}
 use Rattle.ddl_ops.specs.declared.operators.Comparison.TheVariants.{Less}
 use Rattle.ddl_ops.specs.declared.operators.Infix.TheVariants.{Arithmetic, Compare, And}
-use Rattle.ddl_typed.specs.Tree.{own, Expr, text, local, literal, list, infix_, value_call, paren, if_, case_, when, no_cases, pure, match, end, fail, block, first, choose, call, no_exprs, no_alts, alt, tag, no_args, by_value, by_hand, no_items, item, plain, let_, field, result_, under}
+use Rattle.ddl_typed.specs.Tree.{own, Expr, text, local, literal, list, infix_, value_call, paren, if_, case_, when, no_cases, pure, match, end, fail, block}
+use Rattle.ddl_typed.specs.Tree.{first, choose, call, no_exprs, no_alts, alt, tag, no_args, by_value, by_hand, no_items, item, plain, let_, field, result_}
+use Rattle.ddl_typed.specs.Tree.{under}
 use Rattle.ddl_ops.specs.declared.pattern.Pattern.TheVariants as P
 use Rattle.ddl_typed.specs.Tree as t
 use Rattle.ddl_mono.specs.Copies.{Mono}

@@ -15,8 +15,11 @@ use Rattle.ddl_ops.specs.Primitives.{byte_values, match_bytes, match_value}
 use Rattle.ddl_ops.specs.Patterns.{matched, name_of}
 use Rattle.ddl_ops.specs.Casts.{target, fit, fitted}
 use Rattle.ddl_ops.specs.Builtins.{primitive_outcome}
-use Rattle.ddl_ops.proofs.Paid.{Paid, pay, spend, at_end, at_miss, at_stuck, more as more_paid, fewer, keep, both_paid, bind_paid, leave_paid, exit_paid, costs_keep, then_paid, value_paid}
-use Rattle.ddl_typed.specs.Tree.{own, those, Expr, Form, Exprs, Cases, Alts, Args, Items, Spec, expr, text, paren, if_, case_, for_, map_, pure, uint8, match, end, class, fail, primitive, is_, fits, block, first, choose, many, optional, call, no_exprs, more, no_cases, when, unbounded, exactly, from_, up_to, between, no_alts, alt, tag, no_args, by_value, by_hand, no_items, item, plain, let_, field, result_}
+use Rattle.ddl_ops.proofs.Paid.{Paid, pay, spend, at_end, at_miss, at_stuck, more as more_paid, fewer, keep, both_paid, bind_paid, leave_paid, exit_paid}
+use Rattle.ddl_ops.proofs.Paid.{costs_keep, then_paid, value_paid}
+use Rattle.ddl_typed.specs.Tree.{own, those, Expr, Form, Exprs, Cases, Alts, Args, Items, Spec, expr, text, paren, if_, case_, for_, map_, pure, uint8, match}
+use Rattle.ddl_typed.specs.Tree.{end, class, fail, primitive, is_, fits, block, first, choose, many, optional, call, no_exprs, more, no_cases, when, unbounded}
+use Rattle.ddl_typed.specs.Tree.{exactly, from_, up_to, between, no_alts, alt, tag, no_args, by_value, by_hand, no_items, item, plain, let_, field, result_}
 use Rattle.ddl_typed.specs.Env.{Env, empty, with_value, with_name, named_in, with_optional}
 use Rattle.ddl_typed.specs.Lower as typed
 use Rattle.ddl_typed.specs.Blocks.{Built, nothing_built, with_part}
@@ -37,11 +40,13 @@ use Rattle.ddl_lowering.specs.Scopes.{index, has_name, shifted, named_at}
 use Rattle.ddl_lowering.specs.PartTypes.{array_type, type_of}
 use Rattle.ddl_lowering.specs.Choices.{by_truth}
 use Rattle.ddl_lowering.specs.Parts.{Seen, nothing_seen, after_item}
-use Rattle.ddl_lowering.specs.Lowered.{valued, match_lowered, exprs_valued, args_called, lowered, form_lowered, items_lowered, first_lowered, choose_lowered, cases_lowered}
+use Rattle.ddl_lowering.specs.Lowered.{valued, match_lowered, exprs_valued, args_called, lowered, form_lowered, items_lowered, first_lowered, choose_lowered}
+use Rattle.ddl_lowering.specs.Lowered.{cases_lowered}
 use Rattle.ddl_lowering.proofs.Tried.{biased_plain, biased_bind, nothing_law}
 use Rattle.ddl_lowering.proofs.Positions.{over}
 use Rattle.ddl_lowering.proofs.Falling.{none_less}
-use Rattle.ddl_lowering.proofs.Variables.{Zip, nil, zip, scope, values, Matches, match_skip, match_name, match_value_name, match_optional, all_shift, closed_closed, none_named}
+use Rattle.ddl_lowering.proofs.Variables.{Zip, nil, zip, scope, values, Matches, match_skip, match_name, match_value_name, match_optional, all_shift}
+use Rattle.ddl_lowering.proofs.Variables.{closed_closed, none_named}
 use Rattle.ddl_lowering.proofs.Listed.{joined, joined_end, joined_more, parse_assoc, hand_all, all_app}
 use Rattle.ddl_lowering.proofs.Steps.{text_bytes, single_paid, case_paid, paid_is, known_paid, one_parse, tag_paid, count_step}
 use Rattle.ddl_lowering.proofs.Shown.{Holds, holds_item}

@@ -2,12 +2,14 @@
 use Rattle.std.proofs.Common.{◌≡◌, ℕ, suc, ◌+◌, Bool, true, false, if◌then◌else◌, refl, ap, subst, sym, ◌∙◌, arith}
 use Rattle.std.specs.Prelude.{nat_lt}
 use Rattle.ddl_base.specs.declared.span.Span.{Span}
-use Rattle.ddl_types.specs.Value.{Value, Values, Pairs, number, bitdata, boolean, unit, nothing, just, fields, tagged, array, mapping, stream, no_values, value, no_pairs, pair}
+use Rattle.ddl_types.specs.Value.{Value, Values, Pairs, number, bitdata, boolean, unit, nothing, just, fields, tagged, array, mapping, stream, no_values, value}
+use Rattle.ddl_types.specs.Value.{no_pairs, pair}
 use Rattle.ddl_ops.specs.Valued.{Valued, gives, stuck, given, then_value}
 use Rattle.ddl_ops.specs.Arrays.{snoc, size, element}
 use Rattle.ddl_typed.specs.Loops.{elements_of, is_map, with_pair, values_of_pairs, gathered, positioned}
 use Rattle.ddl_core.specs.Core as c
-use Rattle.ddl_core.specs.Operations.{applied, position, elements_count, element_there, key_there, gathered_as, count_pairs, pair_at, pair_key_at, with_elements}
+use Rattle.ddl_core.specs.Operations.{applied, position, elements_count, element_there, key_there, gathered_as, count_pairs, pair_at, pair_key_at}
+use Rattle.ddl_core.specs.Operations.{with_elements}
 
 -- these are the elements of a value of a length, with their keys, from a position on
 abbrev pub Left : Value → ℕ → ℕ → Pairs → Type 0

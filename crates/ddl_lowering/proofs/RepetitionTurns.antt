@@ -30,7 +30,8 @@ use Rattle.ddl_lowering.specs.Choices.{at_zero, choice}
 use Rattle.ddl_lowering.specs.Repetitions.{push_on, push_count, push_counts, turns, state_scope}
 use Rattle.ddl_lowering.specs.Lowered.{lowered}
 use Rattle.ddl_lowering.proofs.Tried.{chosen_law, alone_law}
-use Rattle.ddl_lowering.proofs.Falling.{Count, at_none, at_some, count_is, falls, wanted, unwanted, allowed, forbidden, top_wanted, top_forbidden, top_allowed, below_none}
+use Rattle.ddl_lowering.proofs.Falling.{Count, at_none, at_some, count_is, falls, wanted, unwanted, allowed, forbidden, top_wanted, top_forbidden, top_allowed}
+use Rattle.ddl_lowering.proofs.Falling.{below_none}
 use Rattle.ddl_lowering.proofs.Variables.{Zip, zip, scope, values, Matches, match_skip}
 use Rattle.ddl_lowering.proofs.Steps.{paid_is, known_paid, one_parse}
 use Rattle.ddl_lowering.proofs.Below.{State, free, exact, lowest, highest, both_limits, LowerCosts}

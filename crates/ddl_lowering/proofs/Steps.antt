@@ -12,7 +12,8 @@ use Rattle.ddl_ops.specs.Valued.{Valued, gives, stuck, counts, given, then_value
 use Rattle.ddl_ops.specs.Numbers.{count_of}
 use Rattle.ddl_ops.specs.Primitives.{byte_values, with_bytes}
 use Rattle.ddl_ops.specs.Patterns.{value_at, Matched, has_it, has_another, has_none, outcome_at}
-use Rattle.ddl_ops.proofs.Paid.{Paid, pay, spend, at_parse, at_end, at_miss, at_fault, at_deep, at_stuck, Costs, paid, spent, is_stuck, bind_paid, costs_keep, costs_then, performs}
+use Rattle.ddl_ops.proofs.Paid.{Paid, pay, spend, at_parse, at_end, at_miss, at_fault, at_deep, at_stuck, Costs, paid, spent, is_stuck, bind_paid, costs_keep}
+use Rattle.ddl_ops.proofs.Paid.{costs_then, performs}
 use Rattle.ddl_typed.specs.Choices.{under_tag}
 use Rattle.ddl_core.specs.Core as c
 use Rattle.ddl_core.specs.Attempt.{Single}

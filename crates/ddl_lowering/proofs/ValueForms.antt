@@ -17,7 +17,9 @@ use Rattle.ddl_ops.specs.Patterns.{matched, name_of}
 use Rattle.ddl_ops.specs.Casts.{target, cast_value}
 use Rattle.ddl_ops.specs.Builtins.{builtin_value}
 use Rattle.ddl_ops.proofs.Paid.{Costs, paid, spent, is_stuck, costs_more, costs_fewer, costs_keep, costs_then, performs, costs_exit, count_then}
-use Rattle.ddl_typed.specs.Tree.{Name, own, Expr, Form, Exprs, Named, Cases, Args, Spec, expr, text, local, literal, truth, nothing_, just_, list, record_, union_, select, infix_, prefix_, cast, builtin, value_call, paren, if_, case_, for_, map_, no_exprs, more, no_named, named, no_content, content, no_cases, when, no_args, by_value, by_hand}
+use Rattle.ddl_typed.specs.Tree.{Name, own, Expr, Form, Exprs, Named, Cases, Args, Spec, expr, text, local, literal, truth, nothing_, just_, list, record_}
+use Rattle.ddl_typed.specs.Tree.{union_, select, infix_, prefix_, cast, builtin, value_call, paren, if_, case_, for_, map_, no_exprs, more, no_named, named}
+use Rattle.ddl_typed.specs.Tree.{no_content, content, no_cases, when, no_args, by_value, by_hand}
 use Rattle.ddl_typed.specs.Env.{Env, empty, with_value, with_name, named_in, value_in, with_optional}
 use Rattle.ddl_typed.specs.Lower as typed
 use Rattle.ddl_typed.specs.Blocks.{add_field}
@@ -36,7 +38,8 @@ use Rattle.ddl_lowering.specs.PartTypes.{array_type, type_of}
 use Rattle.ddl_lowering.specs.Choices.{wrong, by_truth}
 use Rattle.ddl_lowering.specs.Lowered.{valued, form_valued, exprs_valued, named_valued, cases_valued, args_called}
 use Rattle.ddl_lowering.proofs.Positions.{over}
-use Rattle.ddl_lowering.proofs.Variables.{Zip, nil, zip, scope, values, look, Matches, at_index, match_skip, match_name, match_value_name, match_optional, all_shift, closed_closed, is_there, not_there, none_named}
+use Rattle.ddl_lowering.proofs.Variables.{Zip, nil, zip, scope, values, look, Matches, at_index, match_skip, match_name, match_value_name, match_optional}
+use Rattle.ddl_lowering.proofs.Variables.{all_shift, closed_closed, is_there, not_there, none_named}
 use Rattle.ddl_lowering.proofs.Listed.{joined, joined_end, joined_more, then_assoc, hand_all, all_app, named_app, fields_after, after_more, after_none}
 use Rattle.ddl_lowering.proofs.Steps.{local_cost, strict, case_cost}
 use Rattle.ddl_lowering.proofs.Below.{LowerCosts}

@@ -8,7 +8,11 @@ use Rattle.ddl_ops.specs.declared.pattern.Pattern.{Pattern}
 use Rattle.ddl_ops.specs.Patterns.{name_of}
 use Rattle.ddl_ops.specs.Numbers.{number_type}
 use Rattle.ddl_ops.specs.Casts.{target}
-use Rattle.ddl_typed.specs.Tree.{own, Class, those, Expr, Form, Exprs, Named, Content, Cases, Bounds, Alts, Args, Items, Item, expr, local, literal, truth, nothing_, just_, list, record_, union_, select, infix_, prefix_, cast, builtin, value_call, paren, if_, for_, map_, pure, uint8, end, class, primitive, is_, fits, block, first, choose, many, optional, no_exprs, more, no_named, named, no_content, content, no_cases, unbounded, exactly, from_, up_to, between, no_alts, alt, tag, no_args, by_value, by_grammar, by_class, by_type, by_hand, no_items, item, plain, let_, field, result_}
+use Rattle.ddl_typed.specs.Tree.{own, Class, those, Expr, Form, Exprs, Named, Content, Cases, Bounds, Alts, Args, Items, Item, expr, local, literal, truth}
+use Rattle.ddl_typed.specs.Tree.{nothing_, just_, list, record_, union_, select, infix_, prefix_, cast, builtin, value_call, paren, if_, for_, map_, pure}
+use Rattle.ddl_typed.specs.Tree.{uint8, end, class, primitive, is_, fits, block, first, choose, many, optional, no_exprs, more, no_named, named, no_content}
+use Rattle.ddl_typed.specs.Tree.{content, no_cases, unbounded, exactly, from_, up_to, between, no_alts, alt, tag, no_args, by_value, by_grammar, by_class}
+use Rattle.ddl_typed.specs.Tree.{by_type, by_hand, no_items, item, plain, let_, field, result_}
 use Rattle.ddl_typed.specs.Tree as tree
 use Rattle.ddl_mono.specs.Copies.{Scope}
 use Rattle.ddl_core.specs.Core.{Operation, give, perform, bind, both, attempt, call, case_, loop, none_left, when}

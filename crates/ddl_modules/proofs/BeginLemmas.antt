@@ -11,7 +11,8 @@ use Rattle.ddl_modules.specs.Reading.{HasImports, prelude_text}
 use Rattle.ddl_modules.specs.declared.reading.Loading.{Loading}
 
 -- the prelude put into an empty list of units
-pub begun : (root name : List ℕ) (old new : Loading) (tree : Module) (u : SourceUnit) → name ≡ prelude_name → old.units.items ≡ [] → old.names.items ≡ prelude_name ∷ module_name root ∷ [] → old.length ≡ 0
+pub begun : (root name : List ℕ) (old new : Loading) (tree : Module) (u : SourceUnit) → name ≡ prelude_name → old.units.items ≡ []
+    → old.names.items ≡ prelude_name ∷ module_name root ∷ [] → old.length ≡ 0
     → HasTree 0 prelude_text (module_view tree) → Adds old name tree u new → new.length ≡ old.length → IsBegun root new
 begun root name old new tree u named no_units first none has a l =
     let first_queue : List (List ℕ) = prelude_name ∷ module_name root ∷ [] in

@@ -1,5 +1,6 @@
 -- Which flags are up on a level.
-use Rattle.std.proofs.Common.{◌≡◌, ◌≢◌, ℕ, zero, suc, ◌+◌, ◌<◌, ◌≤◌, List, [], ◌∷◌, ◌++◌, length, get_or, Contains, Bool, true, false, refl, ap, sym, ◌∙◌, ◌⊎◌, inl, inr, arith, append_assoc, drop}
+use Rattle.std.proofs.Common.{◌≡◌, ◌≢◌, ℕ, zero, suc, ◌+◌, ◌<◌, ◌≤◌, List, [], ◌∷◌, ◌++◌, length, get_or, Contains, Bool, true, false, refl, ap, sym, ◌∙◌, ◌⊎◌}
+use Rattle.std.proofs.Common.{inl, inr, arith, append_assoc, drop}
 use Rattle.std.specs.Prelude.{◌||◌}
 use Rattle.std.proofs.lemmas.Bool.{cases_lt, false≢true, or_cases, or_left, or_right}
 use Rattle.std.proofs.lemmas.List.{drop_more, get_or-map, get_or_past, length-map}
@@ -41,7 +42,8 @@ flag-first (r ∷ rows) unit zero = refl
 flag-first (r ∷ rows) unit (suc a) = flag-first rows unit a
 
 -- up on a level are those from which a walk of that length leads to the unit
-pub walk_from_level : (rows : List Row) (unit k a : ℕ) → flag (level rows unit k) a ≡ true → (walk : List ℕ) × (length walk ≡ k) × IsWalk (lists_of rows) a walk unit
+pub walk_from_level : (rows : List Row) (unit k a : ℕ) → flag (level rows unit k) a ≡ true
+    → (walk : List ℕ) × (length walk ≡ k) × IsWalk (lists_of rows) a walk unit
 walk_from_level rows unit zero a up = ([], refl, Contains_from_has (row rows a) unit (sym (flag-first rows unit a) ∙ up))
 walk_from_level rows unit (suc k) a up =
     let next = which_up (level rows unit k) (row rows a) (sym (flag-lifted rows (level rows unit k) a) ∙ up) in
@@ -108,12 +110,14 @@ down-joined (false ∷ flags) (false ∷ others) e n =
     let h = down-joined flags others (omega arith) (λ h. n (ap (λ (l : List Bool). false ∷ l) h)) in omega arith
 
 -- one more flag of two lists together
-pub joined_step : (flags others both : List Bool) (i : ℕ) → length flags ≡ length others → i < length flags → joined flags others ≡ both ++ joined (drop i flags) (drop i others)
+pub joined_step : (flags others both : List Bool) (i : ℕ) → length flags ≡ length others → i < length flags
+    → joined flags others ≡ both ++ joined (drop i flags) (drop i others)
     → joined flags others ≡ (both ++ (get_or flags i false || get_or others i false) ∷ []) ++ joined (drop (i + 1) flags) (drop (i + 1) others)
 joined_step flags others both i e l h =
     let up : Bool = get_or flags i false || get_or others i false in
     let rest : List Bool = joined (drop (i + 1) flags) (drop (i + 1) others) in
-    let first : joined (drop i flags) (drop i others) ≡ joined (get_or flags i false ∷ drop (i + 1) flags) (drop i others) = ap (λ (f : List Bool). joined f (drop i others)) (drop_more flags i false l) in
+    let first : joined (drop i flags) (drop i others) ≡ joined (get_or flags i false ∷ drop (i + 1) flags) (drop i others) =
+    ap (λ (f : List Bool). joined f (drop i others)) (drop_more flags i false l) in
     let second : joined (get_or flags i false ∷ drop (i + 1) flags) (drop i others) ≡ up ∷ rest =
     ap (λ (f : List Bool). joined (get_or flags i false ∷ drop (i + 1) flags) f) (drop_more others i false (omega arith)) in
     h ∙ (ap (λ (t : List Bool). both ++ t) (first ∙ second) ∙ sym (append_assoc both (up ∷ []) rest))

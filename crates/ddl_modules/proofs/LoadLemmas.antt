@@ -1,5 +1,6 @@
 -- Facts of what was read.
-use Rattle.std.proofs.Common.{◌≡◌, ℕ, ◌+◌, ◌<◌, ◌≤◌, List, [], ◌∷◌, ◌++◌, length, get_or, refl, ap, sym, subst, ◌∙◌, inl, inr, arith, Bool, true, false, zero, suc, drop, Contains, length-drop}
+use Rattle.std.proofs.Common.{◌≡◌, ℕ, ◌+◌, ◌<◌, ◌≤◌, List, [], ◌∷◌, ◌++◌, length, get_or, refl, ap, sym, subst, ◌∙◌, inl, inr, arith, Bool, true, false, zero}
+use Rattle.std.proofs.Common.{suc, drop, Contains, length-drop}
 use Rattle.std.specs.Prelude.{if◌then◌else◌, ◌||◌, map, slice_get, Some}
 use Rattle.std.specs.Str.{bytes_eq}
 use Rattle.std.specs.List.{All}
@@ -48,7 +49,8 @@ queue-two root us = from_two (prelude_name ∷ module_name root ∷ []) us (omeg
   where
     from_two : (names : List (List ℕ)) (us : List SourceUnit) → 2 ≤ length names → 2 ≤ length (known names us)
     from_two names [] h = h
-    from_two names (u ∷ us) h = let l = with_names-longer names (imported u.tree.imports.items) in from_two (with_names names (imported u.tree.imports.items)) us (omega arith)
+    from_two names (u ∷ us) h = let l = with_names-longer names (imported u.tree.imports.items)
+        in from_two (with_names names (imported u.tree.imports.items)) us (omega arith)
 
 -- where all was read, memory may have run out at the last module
 without_memory : (old new : FilesState) (root : List ℕ) (us : List SourceUnit) (names : List (List ℕ)) (n : ℕ) → Read new root us names n → 2 ≤ length us
@@ -68,10 +70,11 @@ two_units old new root us h = let two = queue-two root us in omega (arith, h.3)
 
 place_below : (names : List (List ℕ)) (name : List ℕ) → place names name < length (with_name names name)
 place_below [] name = omega arith
-place_below (other ∷ names) name = elim (bytes_eq other name) as (λ b. (if b then 0 else place names name + 1) < length (if b then other ∷ names else other ∷ with_name names name)) [
-  | true ↦ omega arith
-  | false ↦ let h = place_below names name in omega arith
-]
+place_below (other ∷ names) name = elim (bytes_eq other name) as (λ b.
+    (if b then 0 else place names name + 1) < length (if b then other ∷ names else other ∷ with_name names name)) [
+      | true ↦ omega arith
+      | false ↦ let h = place_below names name in omega arith
+    ]
 
 -- these are all less than n
 abbrev pub AreBelow : ℕ → List ℕ → Type 0
@@ -88,7 +91,8 @@ places_below names (name ∷ others) =
     let b : place names name < length (with_name names name) = place_below names name in
     All-cons (λ p. p < n) (place names name) (places (with_name names name) others) (omega arith) (places_below (with_name names name) others)
 
-imports_below : (root : List ℕ) (us : List SourceUnit) (u : SourceUnit) → HasImports (queue root us) u → AreBelow (length (queue root (us ++ u ∷ []))) u.imports.items
+imports_below : (root : List ℕ) (us : List SourceUnit) (u : SourceUnit) → HasImports (queue root us) u
+    → AreBelow (length (queue root (us ++ u ∷ []))) u.imports.items
 imports_below root us u h =
     let P : List ℕ → Type 0 = λ ps. AreBelow (length (queue root (us ++ u ∷ []))) ps in
     let Q : List (List ℕ) → Type 0 = λ q. AreBelow (length q) (places (queue root us) (imported u.tree.imports.items)) in
@@ -97,17 +101,20 @@ imports_below root us u h =
 all_below : (files : FilesState) (root : List ℕ) (us : List SourceUnit) (names : List (List ℕ)) (n : ℕ) → Read files root us names n
     → All (λ u. AreBelow (length (queue root us)) u.imports.items) us
 all_below files root us names n (prelude {u = u} p) =
-    All-cons (λ v. AreBelow (length (queue root (u ∷ []))) v.imports.items) u [] (imports_below root [] u p.2) (All-nil (λ v. AreBelow (length (queue root (u ∷ []))) v.imports.items))
+    All-cons (λ v. AreBelow (length (queue root (u ∷ []))) v.imports.items) u [] (imports_below root [] u p.2)
+    (All-nil (λ v. AreBelow (length (queue root (u ∷ []))) v.imports.items))
 all_below files root us names n (more {us = us'} {names = names'} {before = before} u m r t) =
     let here : SourceUnit → Type 0 = λ v. AreBelow (length (queue root (us' ++ u ∷ []))) v.imports.items in
     let longer : length (queue root us') ≤ length (queue root (us' ++ u ∷ [])) = queue-longer root us' u in
     All-push here us' u
-    (All-weaker (λ v. AreBelow (length (queue root us')) v.imports.items) here (λ v h. below_more (length (queue root us')) (length (queue root (us' ++ u ∷ []))) v.imports.items longer h) us'
+    (All-weaker (λ v. AreBelow (length (queue root us')) v.imports.items) here (λ v h.
+    below_more (length (queue root us')) (length (queue root (us' ++ u ∷ []))) v.imports.items longer h) us'
     (all_below files root us' names' before r))
     (imports_below root us' u t.imports)
 
 -- each import leads to a unit
-pub imports_lead_to_units : (old new : FilesState) (root : List ℕ) (us : List SourceUnit) → AreRead old new root us → All (λ u. AreBelow (length us) u.imports.items) us
+pub imports_lead_to_units : (old new : FilesState) (root : List ℕ) (us : List SourceUnit) → AreRead old new root us
+    → All (λ u. AreBelow (length us) u.imports.items) us
 imports_lead_to_units old new root us h =
     let P : ℕ → Type 0 = λ n. All (λ u. AreBelow n u.imports.items) us in
     subst P (sym h.3) (all_below new root us h.0 h.1 h.2)
@@ -163,7 +170,8 @@ not_loaded old new root (refused.TooMany name span) h = h
 not_loaded old new root (refused.Source name error) h = h
 not_loaded old new root refused.NoMemory h = h
 
-pub told_cycle : (old new : FilesState) (root : List ℕ) (us : List SourceUnit) (e : LoadError) → AreRead old new root us → IsCycleOf us e → AreNotLoaded old new root e
+pub told_cycle : (old new : FilesState) (root : List ℕ) (us : List SourceUnit) (e : LoadError) → AreRead old new root us → IsCycleOf us e
+    → AreNotLoaded old new root e
 told_cycle old new root us (refused.Cycle span modules) r h = (us, r, h)
 told_cycle old new root us (refused.Missing file) r h = absurd h
 told_cycle old new root us refused.ReadFault r h = absurd h
@@ -173,9 +181,11 @@ told_cycle old new root us (refused.Source name error) r h = absurd h
 told_cycle old new root us refused.NoMemory r h = absurd h
 
 -- the cycle as it is told, from what was found
-pub told_of : (us : List SourceUnit) (a : ℕ) (rest : List ℕ) (u : SourceUnit) (b : ℕ) (span : Span) (names : List (List ℕ)) → IsFirstCycle (imports_of us) a rest → u ≡ get_or us a u
+pub told_of : (us : List SourceUnit) (a : ℕ) (rest : List ℕ) (u : SourceUnit) (b : ℕ) (span : Span) (names : List (List ℕ))
+    → IsFirstCycle (imports_of us) a rest → u ≡ get_or us a u
     → b ≡ second_of a rest → import_span u.imports.items u.tree.imports.items b ≡ Some span → names ≡ map (unit_name us) (a ∷ rest) → IsToldCycle us span names
 told_of us a rest u b span names first is second there named =
     let unit : slice_get us a ≡ Some u = slice_get_read us (length us) a u refl (unit_within us a rest first.cycle) is in
-    let here : import_span u.imports.items u.tree.imports.items (second_of a rest) ≡ Some span = ap (import_span u.imports.items u.tree.imports.items) (sym second) ∙ there in
+    let here : import_span u.imports.items u.tree.imports.items (second_of a rest) ≡ Some span =
+    ap (import_span u.imports.items u.tree.imports.items) (sym second) ∙ there in
     (a, rest, first, (u, unit, here), named)

@@ -1,5 +1,6 @@
 -- What the reading of modules keeps from turn to turn.
-use Rattle.std.proofs.Common.{◌≡◌, ℕ, ◌+◌, ◌-◌, ◌<◌, ◌≤◌, ◌^◌, List, [], ◌∷◌, ◌++◌, length, refl, ap, ◌∙◌, arith, inl, inr, vec_len, length-append, suc, true, false}
+use Rattle.std.proofs.Common.{◌≡◌, ℕ, ◌+◌, ◌-◌, ◌<◌, ◌≤◌, ◌^◌, List, [], ◌∷◌, ◌++◌, length, refl, ap, ◌∙◌, arith, inl, inr, vec_len, length-append, suc, true}
+use Rattle.std.proofs.Common.{false}
 use Rattle.std.specs.Prelude.{if◌then◌else◌}
 use Rattle.std.specs.Str.{bytes_eq}
 use Rattle.ddl_outside.specs.Files.{FilesState, Later}
@@ -33,7 +34,8 @@ with_names-longer names (name ∷ others) =
 
 pub queue-longer : (root : List ℕ) (us : List SourceUnit) (u : SourceUnit) → length (queue root us) ≤ length (queue root (us ++ u ∷ []))
 queue-longer root us u =
-    let one_more : queue root (us ++ u ∷ []) ≡ with_names (queue root us) (imported u.tree.imports.items) = known-more (prelude_name ∷ module_name root ∷ []) us u in
+    let one_more : queue root (us ++ u ∷ []) ≡ with_names (queue root us) (imported u.tree.imports.items) =
+    known-more (prelude_name ∷ module_name root ∷ []) us u in
     rw one_more (with_names-longer (queue root us) (imported u.tree.imports.items))
 
 -- what was read so far, and which files were touched
@@ -74,12 +76,14 @@ progress-begun files root l h =
     }
 
 -- no more units than names
-takes-within : (a b : FilesState) (root : List ℕ) (l l' : Loading) → TakesTurn a b root l l' → vec_len l.units < vec_len l.names → IsQueued root l → vec_len l'.units ≤ vec_len l'.names
+takes-within : (a b : FilesState) (root : List ℕ) (l l' : Loading) → TakesTurn a b root l l' → vec_len l.units < vec_len l.names → IsQueued root l
+    → vec_len l'.units ≤ vec_len l'.names
 takes-within a b root l l' h unread queued =
     let units : length l'.units.items ≡ length l.units.items + 1 = ap length h.4 ∙ length-append l.units.items (h.0 ∷ []) in
     let before : length l.names.items ≡ length (queue root l.units.items) = ap length queued.0 in
     let after : length l'.names.items ≡ length (queue root l'.units.items) = ap length h.6.0 in
-    let same : length (queue root l'.units.items) ≡ length (queue root (l.units.items ++ h.0 ∷ [])) = ap (λ (us : List SourceUnit). length (queue root us)) h.4 in
+    let same : length (queue root l'.units.items) ≡ length (queue root (l.units.items ++ h.0 ∷ [])) = ap (λ (us : List SourceUnit). length (queue root us)) h.4
+    in
     let longer = queue-longer root l.units.items h.0 in
     let old_units = l.units.ok.0 in
     let new_units = l'.units.ok.0 in
@@ -87,7 +91,8 @@ takes-within a b root l l' h unread queued =
     let new_names = l'.names.ok.0 in
     omega arith
 
-pub progress-more : (begin a b : FilesState) (root : List ℕ) (l l' : Loading) → Progress begin a root l → vec_len l.units < vec_len l.names → Later a b → TakesTurn a b root l l' → Progress begin b root l'
+pub progress-more : (begin a b : FilesState) (root : List ℕ) (l l' : Loading) → Progress begin a root l → vec_len l.units < vec_len l.names → Later a b
+    → TakesTurn a b root l l' → Progress begin b root l'
 progress-more begin a b root l l' p unread later h =
     let units : l'.units.items ≡ l.units.items ++ h.0 ∷ [] = h.4 in
     let longer : l'.length ≡ l.length + h.1 = h.5 in
@@ -106,7 +111,8 @@ progress-more begin a b root l l' p unread later h =
       );
     }
 
-pub progress-smaller : (a b : FilesState) (root : List ℕ) (l l' : Loading) → TakesTurn a b root l l' → vec_len l.units < vec_len l.names → IsQueued root l → 257 - vec_len l'.units < 257 - vec_len l.units
+pub progress-smaller : (a b : FilesState) (root : List ℕ) (l l' : Loading) → TakesTurn a b root l l' → vec_len l.units < vec_len l.names → IsQueued root l
+    → 257 - vec_len l'.units < 257 - vec_len l.units
 progress-smaller a b root l l' h unread queued =
     let units : length l'.units.items ≡ length l.units.items + 1 = ap length h.4 ∙ length-append l.units.items (h.0 ∷ []) in
     let new = l'.units.ok.0 in
@@ -114,7 +120,8 @@ progress-smaller a b root l l' h unread queued =
     let few : vec_len l.names ≤ 257 = queued.1 in
     omega arith
 
-pub progress-done : (begin now : FilesState) (root : List ℕ) (l : Loading) → Progress begin now root l → vec_len l.names ≤ vec_len l.units → AreRead begin now root l.units.items
+pub progress-done : (begin now : FilesState) (root : List ℕ) (l : Loading) → Progress begin now root l → vec_len l.names ≤ vec_len l.units
+    → AreRead begin now root l.units.items
 progress-done begin now root l p none =
     let units = l.units.ok.0 in
     let names = l.names.ok.0 in
@@ -122,7 +129,8 @@ progress-done begin now root l p none =
     let within : vec_len l.units ≤ vec_len l.names = p.within in
     (p.read.0, l.length, p.read.1, omega arith, p.read.2)
 
-IsNoTree-earlier : (begin a b : FilesState) (file name : List ℕ) (before : ℕ) (e : LoadError) → Later begin a → IsNoTree a b file name before e → IsNoTree begin b file name before e
+IsNoTree-earlier : (begin a b : FilesState) (file name : List ℕ) (before : ℕ) (e : LoadError) → Later begin a → IsNoTree a b file name before e
+    → IsNoTree begin b file name before e
 IsNoTree-earlier begin a b file name before (refused.Missing missing) later h = (h.0, IsAbsent-earlier begin a b file later h.1)
 IsNoTree-earlier begin a b file name before refused.ReadFault later h = IsFailed-earlier begin a b later h
 IsNoTree-earlier begin a b file name before (refused.TooLarge large n) later h = h
@@ -136,7 +144,8 @@ IsLastTurn-earlier : (begin a b : FilesState) (root : List ℕ) (us : List Sourc
 IsLastTurn-earlier begin a b root us name before e later (inl h) = inl (IsNoTree-earlier begin a b (module_file root name) name before e later h)
 IsLastTurn-earlier begin a b root us name before e later (inr h) = inr h
 
-pub progress-failed : (begin a b : FilesState) (root : List ℕ) (l : Loading) (e : LoadError) → Progress begin a root l → Later a b → IsNoTurn a b root l e → AreNotRead begin b root e
+pub progress-failed : (begin a b : FilesState) (root : List ℕ) (l : Loading) (e : LoadError) → Progress begin a root l → Later a b → IsNoTurn a b root l e
+    → AreNotRead begin b root e
 progress-failed begin a b root l e p later h =
     inr (
       l.units.items,

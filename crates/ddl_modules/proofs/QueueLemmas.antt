@@ -1,5 +1,6 @@
 -- Facts of the queue of names.
-use Rattle.std.proofs.Common.{◌≡◌, ℕ, ◌+◌, ◌<◌, ◌≤◌, List, [], ◌∷◌, ◌++◌, length, drop, get_or, suc, refl, ap, sym, ◌∙◌, Bool, true, false, arith, length-append, append_assoc}
+use Rattle.std.proofs.Common.{◌≡◌, ℕ, ◌+◌, ◌<◌, ◌≤◌, List, [], ◌∷◌, ◌++◌, length, drop, get_or, suc, refl, ap, sym, ◌∙◌, Bool, true, false, arith}
+use Rattle.std.proofs.Common.{length-append, append_assoc}
 use Rattle.std.specs.Prelude.{Some, None, Option, nat_lt, if◌then◌else◌}
 use Rattle.std.specs.Str.{bytes_eq}
 use Rattle.std.proofs.lemmas.List.{drop_more}
@@ -33,21 +34,24 @@ place-within (n ∷ ns) name = elim (bytes_eq n name) as (λ b. (if b then 0 els
 -- a name that is there adds nothing
 pub with_name-old : (names : List (List ℕ)) (name : List ℕ) → place names name < length names → with_name names name ≡ names
 with_name-old [] name = λ h. absurd (omega arith)
-with_name-old (n ∷ ns) name = elim (bytes_eq n name) as (λ b. (if b then 0 else place ns name + 1) < suc (length ns) → (if b then n ∷ ns else n ∷ with_name ns name) ≡ n ∷ ns) [
-  | true ↦ λ h. refl
-  | false ↦ λ h. ap (λ (l : List (List ℕ)). n ∷ l) (with_name-old ns name (omega arith))
-]
+with_name-old (n ∷ ns) name = elim (bytes_eq n name) as (λ b. (if b then 0 else place ns name + 1) < suc (length ns)
+    → (if b then n ∷ ns else n ∷ with_name ns name) ≡ n ∷ ns) [
+      | true ↦ λ h. refl
+      | false ↦ λ h. ap (λ (l : List (List ℕ)). n ∷ l) (with_name-old ns name (omega arith))
+    ]
 
 -- one that is not stands at the end
 pub with_name-new : (names : List (List ℕ)) (name : List ℕ) → length names ≤ place names name → with_name names name ≡ names ++ name ∷ []
 with_name-new [] name = λ h. refl
-with_name-new (n ∷ ns) name = elim (bytes_eq n name) as (λ b. suc (length ns) ≤ (if b then 0 else place ns name + 1) → (if b then n ∷ ns else n ∷ with_name ns name) ≡ n ∷ (ns ++ name ∷ [])) [
-  | true ↦ λ h. absurd (omega arith)
-  | false ↦ λ h. ap (λ (l : List (List ℕ)). n ∷ l) (with_name-new ns name (omega arith))
-]
+with_name-new (n ∷ ns) name = elim (bytes_eq n name) as (λ b. suc (length ns) ≤ (if b then 0 else place ns name + 1)
+    → (if b then n ∷ ns else n ∷ with_name ns name) ≡ n ∷ (ns ++ name ∷ [])) [
+      | true ↦ λ h. absurd (omega arith)
+      | false ↦ λ h. ap (λ (l : List (List ℕ)). n ∷ l) (with_name-new ns name (omega arith))
+    ]
 
 -- the names once one unit more was read
-pub known-more : (names : List (List ℕ)) (us : List SourceUnit) (u : SourceUnit) → known names (us ++ u ∷ []) ≡ with_names (known names us) (imported u.tree.imports.items)
+pub known-more : (names : List (List ℕ)) (us : List SourceUnit) (u : SourceUnit)
+    → known names (us ++ u ∷ []) ≡ with_names (known names us) (imported u.tree.imports.items)
 known-more names [] u = refl
 known-more names (v ∷ vs) u = known-more (with_names names (imported v.tree.imports.items)) vs u
 
@@ -66,7 +70,8 @@ imports_from imports i x within is = drop_more imports i x within ∙ ap (λ (y 
 pub places_step : (all done : List ℕ) (names : List (List ℕ)) (rest : List Import) (x : Import) (more : List Import) → rest ≡ x ∷ more
     → all ≡ done ++ places names (imported rest) → all ≡ (done ++ place names x.name.text ∷ []) ++ places (with_name names x.name.text) (imported more)
 places_step all done names rest x more e h =
-    let split : done ++ places names (imported rest) ≡ done ++ places names (imported (x ∷ more)) = ap (λ (l : List Import). done ++ places names (imported l)) e in
+    let split : done ++ places names (imported rest) ≡ done ++ places names (imported (x ∷ more)) =
+    ap (λ (l : List Import). done ++ places names (imported l)) e in
     h ∙ (split ∙ sym (append_assoc done (place names x.name.text ∷ []) (places (with_name names x.name.text) (imported more))))
 
 pub names_step : (all : List (List ℕ)) (names : List (List ℕ)) (rest : List Import) (x : Import) (more : List Import) → rest ≡ x ∷ more
@@ -86,7 +91,8 @@ beyond_step all names rest x more e few h =
     ap (λ (b : Bool). if b then Some x.name.span else beyond (with_name names x.name.text) more) (nat_lt-not (length (with_name names x.name.text)) few) in
     h ∙ (ap (beyond names) e ∙ first)
 
-pub beyond_here : (all : Option Span) (names : List (List ℕ)) (rest : List Import) (x : Import) (more : List Import) (importer : List ℕ) (e : LoadError) → rest ≡ x ∷ more
+pub beyond_here : (all : Option Span) (names : List (List ℕ)) (rest : List Import) (x : Import) (more : List Import) (importer : List ℕ) (e : LoadError)
+    → rest ≡ x ∷ more
     → all ≡ beyond names rest → IsFull importer (if nat_lt 257 (length (with_name names x.name.text)) then Some x.name.span else None) e → IsFull importer all e
 beyond_here all names rest x more importer e r h full = by_error e full where
   first : (b : Bool) (o : Option Span) (span : Span) → (if b then Some x.name.span else None) ≡ Some span → (if b then Some x.name.span else o) ≡ Some span

@@ -1,5 +1,6 @@
 -- Rows have the imports of their units.
-use Rattle.std.proofs.Common.{◌≡◌, ℕ, zero, suc, ◌<◌, List, [], ◌∷◌, ◌++◌, length, get_or, Contains, Bool, true, false, refl, ap, sym, subst, ◌∙◌, ◌⊎◌, inl, inr, arith, take, ◌+◌}
+use Rattle.std.proofs.Common.{◌≡◌, ℕ, zero, suc, ◌<◌, List, [], ◌∷◌, ◌++◌, length, get_or, Contains, Bool, true, false, refl, ap, sym, subst, ◌∙◌, ◌⊎◌, inl}
+use Rattle.std.proofs.Common.{inr, arith, take, ◌+◌}
 use Rattle.std.specs.Prelude.{◌||◌, ◌==◌}
 use Rattle.std.proofs.lemmas.List.{take_more}
 use Rattle.std.proofs.lemmas.Slice.Zip.{all_zipped_more}
@@ -55,7 +56,8 @@ or_old false false h = refl
 pub has-old : (ms : List ℕ) (m n : ℕ) → has ms m ≡ true → (has ms n || (m == n)) ≡ has ms n
 has-old ms m n h = or_old (has ms n) (m == n) (λ e. ap (has ms) (sym (eqb-true m n e)) ∙ h)
 
-pub same_lists : (us : List SourceUnit) (rows : List Row) (a n : ℕ) → AreRows us rows → has (get_or (lists_of rows) a []) n ≡ has (get_or (imports_of us) a []) n
+pub same_lists : (us : List SourceUnit) (rows : List Row) (a n : ℕ) → AreRows us rows
+    → has (get_or (lists_of rows) a []) n ≡ has (get_or (imports_of us) a []) n
 same_lists [] [] a n h = refl
 same_lists [] (r ∷ rows) a n h = absurd h
 same_lists (u ∷ us) [] a n h = absurd h

@@ -1,5 +1,6 @@
 -- What the search for a cycle of one unit holds from level to level.
-use Rattle.std.proofs.Common.{◌≡◌, ◌≢◌, ℕ, zero, suc, ◌<◌, ◌≤◌, List, [], ◌∷◌, ◌++◌, length, get_or, Bool, true, false, refl, ap, sym, ◌∙◌, ◌⊎◌, inl, inr, add-one, arith, vec_len}
+use Rattle.std.proofs.Common.{◌≡◌, ◌≢◌, ℕ, zero, suc, ◌<◌, ◌≤◌, List, [], ◌∷◌, ◌++◌, length, get_or, Bool, true, false, refl, ap, sym, ◌∙◌, ◌⊎◌, inl, inr}
+use Rattle.std.proofs.Common.{add-one, arith, vec_len}
 use Rattle.std.specs.Prelude.{map, Some, None}
 use Rattle.std.proofs.lemmas.Bool.{both_ways, cases_lt}
 use Rattle.std.proofs.lemmas.List.{get_or_past, length-map}
@@ -9,7 +10,8 @@ use Rattle.ddl_modules.specs.Cycles.{imports_of, HaveNoCycle, IsCycle, IsFirstCy
 use Rattle.ddl_modules.specs.Levels.{down, flag, has, joined, level, levels, lifted, lists_of, AreRows, IsClimb, IsShortestCycle}
 use Rattle.ddl_modules.specs.declared.levels.Levels.{Levels}
 use Rattle.ddl_modules.specs.declared.rows.Row.{Row}
-use Rattle.ddl_modules.proofs.LevelLemmas.{any_up_from, down-joined, flag-first, flag-lifted, joined_cases, joined_left, joined_right, length-joined, level_from_walk, lifted-joined, row}
+use Rattle.ddl_modules.proofs.LevelLemmas.{any_up_from, down-joined, flag-first, flag-lifted, joined_cases, joined_left, joined_right, length-joined}
+use Rattle.ddl_modules.proofs.LevelLemmas.{level_from_walk, lifted-joined, row}
 use Rattle.ddl_modules.proofs.RowLemmas.{has_from_Contains, walk_from, walk_to}
 
 import_within : (lists : List (List ℕ)) (a b : ℕ) → IsImport lists a b → a < length lists
@@ -33,7 +35,8 @@ pub record AreLevels (rows : List Row) (unit : ℕ) (l : Levels) : Type 0 where
   pub closed : (a : ℕ) → flag (lifted rows l.seen.items) a ≡ true → (flag l.seen.items a ≡ true) ⊎ (flag (lifted rows l.top.items) a ≡ true)
   pub own : flag l.seen.items unit ≡ true → flag l.top.items unit ≡ true
 
-pub first_levels : (rows : List Row) (unit : ℕ) (l : Levels) → l.lower.items ≡ [] → vec_len l.lower ≡ 0 → l.top.items ≡ level rows unit 0 → l.seen.items ≡ l.top.items → AreLevels rows unit l
+pub first_levels : (rows : List Row) (unit : ℕ) (l : Levels) → l.lower.items ≡ [] → vec_len l.lower ≡ 0 → l.top.items ≡ level rows unit 0
+    → l.seen.items ≡ l.top.items → AreLevels rows unit l
 first_levels rows unit l none n top seen = record {
   top = top ∙ ap (level rows unit) (sym n);
   lower = ap (map (λ x. x.flags.items)) none ∙ ap (levels rows unit) (sym n);
@@ -55,7 +58,8 @@ length-lifted [] flags = refl
 length-lifted (r ∷ rows) flags = ap suc (length-lifted rows flags)
 
 -- one level more
-module _ (rows : List Row) (unit : ℕ) (old new : Levels) (l : AreLevels rows unit old) (not_top : flag old.top.items unit ≡ false) (h : IsClimb rows old (Some new)) where
+module _ (rows : List Row) (unit : ℕ) (old new : Levels) (l : AreLevels rows unit old) (not_top : flag old.top.items unit ≡ false)
+    (h : IsClimb rows old (Some new)) where
   same_length : length old.seen.items ≡ length new.top.items
   same_length = l.long ∙ (sym (length-lifted rows old.top.items) ∙ ap length (sym h.2))
 
@@ -115,7 +119,8 @@ module _ (rows : List Row) (unit : ℕ) (old new : Levels) (l : AreLevels rows u
 module _ (rows : List Row) (unit : ℕ) (old : Levels) (l : AreLevels rows unit old) (not_top : flag old.top.items unit ≡ false) (h : IsClimb rows old None) where
   lifted_seen : (a : ℕ) → (flag old.seen.items a ≡ true) ⊎ (flag (lifted rows old.top.items) a ≡ true) → flag old.seen.items a ≡ true
   lifted_seen a (inl e) = e
-  lifted_seen a (inr e) = ap (λ (f : List Bool). flag f a) (sym h) ∙ joined_right old.seen.items (lifted rows old.top.items) a (l.long ∙ sym (length-lifted rows old.top.items)) e
+  lifted_seen a (inr e) = ap (λ (f : List Bool). flag f a) (sym h)
+      ∙ joined_right old.seen.items (lifted rows old.top.items) a (l.long ∙ sym (length-lifted rows old.top.items)) e
 
   walk_seen : (a : ℕ) (walk : List ℕ) → IsWalk (lists_of rows) a walk unit → flag old.seen.items a ≡ true
   walk_seen a [] w = l.first a (flag-first rows unit a ∙ has_from_Contains (row rows a) unit w)
@@ -126,7 +131,8 @@ module _ (rows : List Row) (unit : ℕ) (old : Levels) (l : AreLevels rows unit 
   no_cycle rest w = both_ways (flag old.top.items unit) not_top (l.own (walk_seen unit rest w))
 
 -- no cycle of the unit is shorter than its first level that shows the unit
-pub none_shorter : (rows : List Row) (unit : ℕ) (l : Levels) → AreLevels rows unit l → (rest : List ℕ) → IsCycle (lists_of rows) unit rest → vec_len l.lower ≤ length rest
+pub none_shorter : (rows : List Row) (unit : ℕ) (l : Levels) → AreLevels rows unit l → (rest : List ℕ) → IsCycle (lists_of rows) unit rest
+    → vec_len l.lower ≤ length rest
 none_shorter rows unit l h rest w = by (cases_lt (length rest) (vec_len l.lower))
   where
     by : (length rest < vec_len l.lower) ⊎ (vec_len l.lower ≤ length rest) → vec_len l.lower ≤ length rest
@@ -139,7 +145,8 @@ cycle_within lists a b [] w = import_within lists a b w
 cycle_within lists a b (next ∷ walk) w = import_within lists a next w.0
 
 module _ (us : List SourceUnit) (rows : List Row) (same : AreRows us rows) where
-  not_earlier : (a b : ℕ) (other : List ℕ) → ((c : ℕ) → c < a → (rest : List ℕ) → ¬ IsCycle (lists_of rows) c rest) → IsCycle (imports_of us) b other → (b < a) ⊎ (a ≤ b) → a ≤ b
+  not_earlier : (a b : ℕ) (other : List ℕ) → ((c : ℕ) → c < a → (rest : List ℕ) → ¬ IsCycle (lists_of rows) c rest) → IsCycle (imports_of us) b other
+      → (b < a) ⊎ (a ≤ b) → a ≤ b
   not_earlier a b other none w (inl l) = absurd (none b l other (walk_from us rows same b b other w))
   not_earlier a b other none w (inr l) = l
 

@@ -1,5 +1,6 @@
 -- The least walk of a length, unit by unit.
-use Rattle.std.proofs.Common.{◌≡◌, ℕ, zero, suc, ◌+◌, ◌<◌, ◌≤◌, List, [], ◌∷◌, ◌++◌, length, Bool, true, refl, ap, sym, subst, ◌∙◌, ◌⊎◌, inl, inr, arith, length-append, append_assoc}
+use Rattle.std.proofs.Common.{◌≡◌, ℕ, zero, suc, ◌+◌, ◌<◌, ◌≤◌, List, [], ◌∷◌, ◌++◌, length, Bool, true, refl, ap, sym, subst, ◌∙◌, ◌⊎◌, inl, inr, arith}
+use Rattle.std.proofs.Common.{length-append, append_assoc}
 use Rattle.std.specs.Prelude.{map}
 use Rattle.std.proofs.lemmas.Bool.{cases_eq, cases_order}
 use Rattle.std.proofs.lemmas.List.{append-nil, same_from_push}
@@ -42,10 +43,12 @@ pub record IsDescent (rows : List Row) (unit n : ℕ) (lower : List (List Bool))
   pub count : length walk + k ≡ n
   pub least : (rest : List ℕ) → length rest ≡ k → IsLeastWalk (lists_of rows) at rest unit → IsLeastWalk (lists_of rows) unit (walk ++ rest) unit
 
-pub descent_begun : (rows : List Row) (unit n : ℕ) (lower : List (List Bool)) → lower ≡ levels rows unit n → flag (level rows unit n) unit ≡ true → IsDescent rows unit n lower n unit []
+pub descent_begun : (rows : List Row) (unit n : ℕ) (lower : List (List Bool)) → lower ≡ levels rows unit n → flag (level rows unit n) unit ≡ true
+    → IsDescent rows unit n lower n unit []
 descent_begun rows unit n lower e up = record { lower_of = e; up = up; count = omega arith; least = λ rest long h. h }
 
-module _ (rows : List Row) (unit n : ℕ) (lower below : List (List Bool)) (flags : List Bool) (k k' at : ℕ) (walk : List ℕ) (d : IsDescent rows unit n lower k at walk)
+module _ (rows : List Row) (unit n : ℕ) (lower below : List (List Bool)) (flags : List Bool) (k k' at : ℕ) (walk : List ℕ)
+    (d : IsDescent rows unit n lower k at walk)
     (split : lower ≡ below ++ flags ∷ []) (count : k ≡ suc k') where
   parts : (below ≡ levels rows unit k') × (flags ≡ level rows unit k')
   parts = same_from_push below (levels rows unit k') flags (level rows unit k') (sym split ∙ (d.lower_of ∙ ap (levels rows unit) count))
@@ -86,7 +89,8 @@ descent_done rows unit n lower k at walk d none =
     (subst P (append-nil walk) (d.least [] (sym none) last), omega (arith, d.count, none))
 
 -- the flags of what was taken off the end
-pub flags_split : (left new : List Level) (below : Level) → left ≡ new ++ below ∷ [] → map (λ x. x.flags.items) left ≡ map (λ x. x.flags.items) new ++ below.flags.items ∷ []
+pub flags_split : (left new : List Level) (below : Level) → left ≡ new ++ below ∷ []
+    → map (λ x. x.flags.items) left ≡ map (λ x. x.flags.items) new ++ below.flags.items ∷ []
 flags_split left new below e = ap (map (λ (x : Level). x.flags.items)) e ∙ map_push new
   where
     map_push : (new : List Level) → map (λ (x : Level). x.flags.items) (new ++ below ∷ []) ≡ map (λ (x : Level). x.flags.items) new ++ below.flags.items ∷ []

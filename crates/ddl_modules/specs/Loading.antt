@@ -20,7 +20,8 @@ pub record Adds (old : Loading) (name : List ℕ) (tree : Module) (u : SourceUni
 
 -- the prelude was read, and it alone
 abbrev pub IsBegun : List ℕ → Loading → Type 0
-IsBegun root l = (u : SourceUnit) × IsPrelude root u × (l.units.items ≡ u ∷ []) × (l.names.items ≡ queue root l.units.items) × (vec_len l.names ≤ 257) × (l.length ≡ 0)
+IsBegun root l = (u : SourceUnit) × IsPrelude root u × (l.units.items ≡ u ∷ []) × (l.names.items ≡ queue root l.units.items) × (vec_len l.names ≤ 257)
+    × (l.length ≡ 0)
 
 -- a module of this name was read from this file
 abbrev pub TakesFile : FilesState → List ℕ → List ℕ → Loading → Loading → Type 0

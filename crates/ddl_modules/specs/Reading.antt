@@ -49,7 +49,8 @@ pub record IsTurn (files : FilesState) (root : List ℕ) (us : List SourceUnit) 
 -- many bytes, those of the prelude not counted.
 pub data Read (files : FilesState) (root : List ℕ) : List SourceUnit → List (List ℕ) → ℕ → Type 0 where
   prelude : {u : SourceUnit} → IsPrelude root u → Read files root (u ∷ []) [] 0
-  more : {us : List SourceUnit} {names : List (List ℕ)} {before : ℕ} (u : SourceUnit) (n : ℕ) → Read files root us names before → IsTurn files root us before u n
+  more : {us : List SourceUnit} {names : List (List ℕ)} {before : ℕ} (u : SourceUnit) (n : ℕ) → Read files root us names before
+      → IsTurn files root us before u n
       → Read files root (us ++ u ∷ []) (names ++ module_file root u.name ∷ []) (before + n)
 
 -- none of these names is this one

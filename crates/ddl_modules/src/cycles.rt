@@ -2,7 +2,8 @@
 
 ghost use Rattle.std.specs.Prelude.{◌≡◌, ℕ, ◌≤◌, List, length, map, vec_len, true, IfOk, MatchOption};
 ghost use Rattle.ddl_modules.specs.Cycles.{imports_of, HaveNoCycle, IsCycle, IsFirstCycle};
-ghost use Rattle.ddl_modules.specs.Levels.{any_up, flag, level, levels, lists_of, IsLeastUp, IsLeastWalk, IsShortestCycle};
+ghost use Rattle.ddl_modules.specs.Levels.{any_up, flag, level, levels, lists_of, IsLeastUp, IsLeastWalk};
+ghost use Rattle.ddl_modules.specs.Levels.{IsShortestCycle};
 
 use crate::levels::{Level, climb, first_level, is_up};
 use crate::rows::{Row, has, rows_of};

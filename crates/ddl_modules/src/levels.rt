@@ -87,7 +87,8 @@ fn are_same(flags: &[bool], others: &[bool]) -> bool
 
 /// The lowest level of a unit.
 pub(crate) fn first_level(alloc: Global, rows: &[Row], unit: u32) -> Result<Levels, NoMemory>
-    ensures { IfOk result (λ l. (l.lower.items ≡ []) × (vec_len l.lower ≡ 0) × (l.top.items ≡ level rows.now unit 0) × (l.seen.items ≡ l.top.items)) }
+    ensures { IfOk result (λ l. (l.lower.items ≡ []) × (vec_len l.lower ≡ 0) × (l.top.items ≡ level rows.now unit 0)
+        × (l.seen.items ≡ l.top.items)) }
 {
     let top = importers(alloc, rows, unit)?;
     let seen = top.to_vec(alloc)?;

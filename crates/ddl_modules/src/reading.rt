@@ -7,7 +7,8 @@ ghost use Rattle.ddl_tree.specs.ViewModule.{module_view};
 ghost use Rattle.ddl_modules.specs.Files.{module_file, module_name};
 ghost use Rattle.ddl_modules.specs.Loading.{Adds, IsBegun, IsNoFile, IsNoTurn, IsQueued, TakesFile, TakesTurn};
 ghost use Rattle.ddl_modules.specs.Queue.{beyond, prelude_name};
-ghost use Rattle.ddl_modules.specs.Reading.{AreNotRead, AreRead, HasTreeIn, IsFull, IsNoPrelude, IsNoText, IsNoTree, IsWithin, prelude_text};
+ghost use Rattle.ddl_modules.specs.Reading.{AreNotRead, AreRead, HasTreeIn, IsFull, IsNoPrelude, IsNoText, IsNoTree};
+ghost use Rattle.ddl_modules.specs.Reading.{IsWithin, prelude_text};
 
 use crate::error::LoadError;
 use crate::names::{module_file, module_name};

@@ -2,7 +2,12 @@
 use Rattle.std.specs.Prelude.{◌≡◌, ℕ, Bool, true, false, List, [], ◌∷◌, length, Some}
 use Rattle.ddl_types.specs.Types.{Ty, Tys, var, con, none}
 use Rattle.ddl_types.specs.Types as t
-use Rattle.ddl_typed.specs.Tree.{own, Class, range, or_, not_, declared, class_parameter, those, Expr, Form, Exprs, Named, Cases, Bounds, Alts, Args, Items, Spec, expr, text, local, literal, truth, nothing_, just_, list, record_, union_, select, infix_, prefix_, cast, builtin, value_call, paren, if_, case_, for_, map_, pure, uint8, match, end, class, fail, primitive, is_, fits, block, first, choose, many, optional, call, no_exprs, more, no_named, named, no_content, content, no_cases, when, unbounded, exactly, from_, up_to, between, no_alts, alt, tag, no_args, by_value, by_grammar, by_class, by_type, by_hand, no_items, item, plain, let_, field, result_}
+use Rattle.ddl_typed.specs.Tree.{own, Class, range, or_, not_, declared, class_parameter, those, Expr, Form, Exprs, Named, Cases, Bounds, Alts, Args, Items}
+use Rattle.ddl_typed.specs.Tree.{Spec, expr, text, local, literal, truth, nothing_, just_, list, record_, union_, select, infix_, prefix_, cast, builtin}
+use Rattle.ddl_typed.specs.Tree.{value_call, paren, if_, case_, for_, map_, pure, uint8, match, end, class, fail, primitive, is_, fits, block, first, choose}
+use Rattle.ddl_typed.specs.Tree.{many, optional, call, no_exprs, more, no_named, named, no_content, content, no_cases, when, unbounded, exactly, from_, up_to}
+use Rattle.ddl_typed.specs.Tree.{between, no_alts, alt, tag, no_args, by_value, by_grammar, by_class, by_type, by_hand, no_items, item, plain, let_, field}
+use Rattle.ddl_typed.specs.Tree.{result_}
 use Rattle.ddl_typed.specs.Meaning.{form_at}
 use Rattle.ddl_mono.specs.Copies.{Copy, Mono, Scope, copy_at, params_of, is_value, spec_of}
 

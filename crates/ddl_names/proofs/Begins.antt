@@ -1,5 +1,6 @@
 -- Where the uses in each declaration begin.
-use Rattle.std.proofs.Common.{◌≡◌, ℕ, ◌+◌, ◌-◌, ◌<◌, ◌≤◌, List, [], ◌∷◌, ◌++◌, length, map, take, drop, get_or, refl, ap, sym, ◌∙◌, add_assoc, add-zero, length-append, arith}
+use Rattle.std.proofs.Common.{◌≡◌, ℕ, ◌+◌, ◌-◌, ◌<◌, ◌≤◌, List, [], ◌∷◌, ◌++◌, length, map, take, drop, get_or, refl, ap, sym, ◌∙◌, add_assoc, add-zero}
+use Rattle.std.proofs.Common.{length-append, arith}
 use Rattle.std.specs.Prelude.{flat_map}
 use Rattle.std.proofs.lemmas.List.{append_assoc, append-nil, drop_all}
 use Rattle.std.proofs.lemmas.List.Concat.{flat_map-cons}
@@ -39,7 +40,8 @@ begins_append n (x ∷ xs) ys =
 cut_begins : {A : Type 0} (before : List A) (parts : List (List A)) → cut_at (before ++ joined parts) (begins (length before) parts) ≡ parts
 cut_begins before [] = refl
 cut_begins before (xs ∷ []) = ap (λ ys. ys ∷ []) (drop-append_seam before (xs ++ []) ∙ append-nil xs)
-cut_begins {A} before (xs ∷ ys ∷ parts) = ap (λ zs. zs ∷ cut_at all (begins (length before + length xs) (ys ∷ parts))) first ∙ ap (λ zss. xs ∷ zss) (moved ∙ cut_begins (before ++ xs) (ys ∷ parts))
+cut_begins {A} before (xs ∷ ys ∷ parts) = ap (λ zs. zs ∷ cut_at all (begins (length before + length xs) (ys ∷ parts))) first
+    ∙ ap (λ zss. xs ∷ zss) (moved ∙ cut_begins (before ++ xs) (ys ∷ parts))
   where
     behind : List A
     behind = joined (ys ∷ parts)
@@ -71,7 +73,8 @@ first_noted site ds i d old new whole all more e h was added noted =
     rest : List (List Use)
     rest = uses_in_each site (map decl_view (drop (i + 1) ds))
 
-pub all_noted : (site : Site) (ds : List Decl) (i n : ℕ) (firsts whole : List ℕ) → length ds ≤ i → firsts ++ begins n (uses_in_each site (map decl_view (drop i ds))) ≡ whole → firsts ≡ whole
+pub all_noted : (site : Site) (ds : List Decl) (i n : ℕ) (firsts whole : List ℕ) → length ds ≤ i
+    → firsts ++ begins n (uses_in_each site (map decl_view (drop i ds))) ≡ whole → firsts ≡ whole
 all_noted site ds i n firsts whole past h =
     sym (append-nil firsts) ∙ ap (λ es. firsts ++ begins n (uses_in_each site (map decl_view es))) (sym (drop_all i ds past)) ∙ h
 
@@ -87,7 +90,8 @@ joined_uses site (d ∷ ds) =
 joined_from : (units : List Loaded) (n : ℕ) (us : List Loaded) → joined (uses_from units n us) ≡ all_uses (findings_from units n us)
 joined_from units n [] = refl
 joined_from units n (u ∷ us) =
-    joined_append (uses_in_each site u.tree.decls) (uses_from units (n + 1) us) ∙ ap (λ xs. xs ++ joined (uses_from units (n + 1) us)) (joined_uses site u.tree.decls)
+    joined_append (uses_in_each site u.tree.decls) (uses_from units (n + 1) us)
+    ∙ ap (λ xs. xs ++ joined (uses_from units (n + 1) us)) (joined_uses site u.tree.decls)
     ∙ ap (λ xs. all_uses (flat_map (decl_findings site) u.tree.decls) ++ xs) (joined_from units (n + 1) us)
     ∙ sym (uses_append (flat_map (decl_findings site) u.tree.decls) (findings_from units (n + 1) us))
   where
@@ -95,14 +99,16 @@ joined_from units n (u ∷ us) =
     site = record { units = units; here = n }
 
 -- as a program has its parts: what it holds are these modules
-pub module_noted : (us held : List SourceUnit) (k : ℕ) (u : SourceUnit) (ds : List Decl) (old new whole : List ℕ) (all more : List Use) → held ≡ us → k < length us
+pub module_noted : (us held : List SourceUnit) (k : ℕ) (u : SourceUnit) (ds : List Decl) (old new whole : List ℕ) (all more : List Use) → held ≡ us
+    → k < length us
     → u ≡ get_or us k u → ds ≡ u.tree.decls.items → old ++ begins (length all) (uses_from (loaded us) k (loaded (drop k us))) ≡ whole
     → more ≡ all ++ all_uses (flat_map (decl_findings (record { units = map unit_view held; here = k })) (map decl_view ds))
     → new ≡ old ++ begins (length all) (uses_in_each (record { units = map unit_view held; here = k }) (map decl_view ds))
     → new ++ begins (length more) (uses_from (loaded us) (k + 1) (loaded (drop (k + 1) us))) ≡ whole
 module_noted us held k u ds old new whole all more same h e own was added noted =
     ap (λ ns. ns ++ begins (length more) rest) noted ∙ append_assoc old (begins (length all) here) (begins (length more) rest)
-    ∙ ap (λ n. old ++ (begins (length all) here ++ begins n rest)) (ap length added ∙ length-append all found ∙ ap (λ xs. length all + length xs) (sym (joined_uses site (map decl_view ds))))
+    ∙ ap (λ n. old ++ (begins (length all) here ++ begins n rest)) (ap length added ∙ length-append all found
+    ∙ ap (λ xs. length all + length xs) (sym (joined_uses site (map decl_view ds))))
     ∙ ap (λ ns. old ++ ns) (sym (begins_append (length all) here rest)) ∙ ap (λ xss. old ++ begins (length all) xss) (sym next) ∙ was
   where
     site : Site
@@ -123,13 +129,16 @@ module_noted us held k u ds old new whole all more same h e own was added noted 
         ∙ ap (λ es. uses_in_each (record { units = loaded us; here = k }) (map decl_view es) ++ rest) (sym own)
         ∙ ap (λ vs. uses_in_each (record { units = map unit_view vs; here = k }) (map decl_view ds) ++ rest) (sym same)
 
-pub modules_noted : (us : List SourceUnit) (k n : ℕ) (firsts whole : List ℕ) → length us ≤ k → firsts ++ begins n (uses_from (loaded us) k (loaded (drop k us))) ≡ whole → firsts ≡ whole
-modules_noted us k n firsts whole past h = sym (append-nil firsts) ∙ ap (λ vs. firsts ++ begins n (uses_from (loaded us) k (loaded vs))) (sym (drop_all k us past)) ∙ h
+pub modules_noted : (us : List SourceUnit) (k n : ℕ) (firsts whole : List ℕ) → length us ≤ k
+    → firsts ++ begins n (uses_from (loaded us) k (loaded (drop k us))) ≡ whole → firsts ≡ whole
+modules_noted us k n firsts whole past h = sym (append-nil firsts)
+    ∙ ap (λ vs. firsts ++ begins n (uses_from (loaded us) k (loaded vs))) (sym (drop_all k us past)) ∙ h
 
 -- ---- all modules
 
 -- the uses in all modules, cut where those of each declaration begin
-pub uses_cut : (us : List SourceUnit) (all : List Use) (firsts : List ℕ) → all ≡ all_uses (findings_from (loaded us) 0 (loaded us)) → firsts ≡ begins 0 (uses_of_each (loaded us))
+pub uses_cut : (us : List SourceUnit) (all : List Use) (firsts : List ℕ) → all ≡ all_uses (findings_from (loaded us) 0 (loaded us))
+    → firsts ≡ begins 0 (uses_of_each (loaded us))
     → cut_at all firsts ≡ uses_of_each (loaded us)
 uses_cut us all firsts taken noted =
     ap (λ xs. cut_at xs firsts) (taken ∙ sym (joined_from (loaded us) 0 (loaded us))) ∙ ap (cut_at (joined (uses_of_each (loaded us)))) noted

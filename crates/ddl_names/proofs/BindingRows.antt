@@ -14,7 +14,8 @@ use Rattle.ddl_kinds.specs.declared.error.NameError.TheVariants as e
 use Rattle.ddl_kinds.specs.declared.bound.Use.{Use}
 use Rattle.ddl_uses.specs.Bindings.{Loaded}
 use Rattle.ddl_names.specs.Modules.{refusal, uses_in, uses_of_each}
-use Rattle.ddl_names.proofs.RowForms.{alone, at, block, byte, def_grammar, def_main, def_value, digit, field_x, let_x, lower, main, module_of, name, nowhere, one_name, plain, pure, upper}
+use Rattle.ddl_names.proofs.RowForms.{alone, at, block, byte, def_grammar, def_main, def_value, digit, field_x, let_x, lower, main, module_of, name, nowhere}
+use Rattle.ddl_names.proofs.RowForms.{one_name, plain, pure, upper}
 
 abbrev use_at : ℕ → ℕ → Bound → Use
 use_at i j to = record { span = at i j; bound = to }
@@ -54,7 +55,8 @@ own_before_imports : uses_in own ≡ use_at 29 30 (Decl 1) ∷ use_at 8 11 (Buil
 own_before_imports = refl
 
 -- each of its four declarations has one use
-own_by_declaration : uses_of_each own ≡ (use_at 29 30 (Decl 1) ∷ []) ∷ (use_at 8 11 (BuiltIn b.End) ∷ []) ∷ (use_at 8 11 (BuiltIn b.End) ∷ []) ∷ (use_at 8 11 (BuiltIn b.End) ∷ []) ∷ []
+own_by_declaration : uses_of_each own ≡ (use_at 29 30 (Decl 1) ∷ []) ∷ (use_at 8 11 (BuiltIn b.End) ∷ []) ∷ (use_at 8 11 (BuiltIn b.End) ∷ [])
+    ∷ (use_at 8 11 (BuiltIn b.End) ∷ []) ∷ []
 own_by_declaration = refl
 
 -- one module that is imported twice is one import; it stands before the prelude, whose F has number 0
@@ -79,7 +81,8 @@ prelude_imported : refusal (module_of [] (f ∷ []) ∷ module_of (0 ∷ 2 ∷ [
 prelude_imported = refl
 
 -- def UInt8 = END; def Main = UInt8: built-in names are not reserved
-not_reserved : uses_in (alone (def_grammar (codes "UInt8") [] (upper (codes "END") 12) ∷ def_main (upper (codes "UInt8") 27) ∷ [])) ≡ use_at 12 15 (BuiltIn b.End) ∷ use_at 27 32 (Decl 0) ∷ []
+not_reserved : uses_in (alone (def_grammar (codes "UInt8") [] (upper (codes "END") 12) ∷ def_main (upper (codes "UInt8") 27) ∷ []))
+    ≡ use_at 12 15 (BuiltIn b.End) ∷ use_at 27 32 (Decl 0) ∷ []
 not_reserved = refl
 
 -- ---- scope
@@ -110,22 +113,26 @@ sees_around : uses_in (main (block (let_x 20 byte ∷ plain (block (pure_x 30 �
 sees_around = refl
 
 -- the tags of alternatives bind nothing
-tags_bind_nothing : refusal (main (ex.Choice Biased (ex.WithTags (ex.a_binding (name (codes "x") 20) byte nowhere (ex.a_binding (name (codes "y") 30) (x_at 34) nowhere ex.no_bindings))) nowhere))
+tags_bind_nothing : refusal (main (ex.Choice Biased (ex.WithTags
+    (ex.a_binding (name (codes "x") 20) byte nowhere (ex.a_binding (name (codes "y") 30) (x_at 34) nowhere ex.no_bindings))) nowhere))
     ≡ Some (e.Unknown (at 34 35))
 tags_bind_nothing = refl
 
 -- def f x = for (s = x; x in x) x: the parameter in the start and the list, and the element in the body
-for_body : uses_in (alone (def_value (codes "f") (mo.Lower (name (codes "x") 6) ∷ []) (ex.For (name (codes "s") 15) (x_at 19) (one_name (codes "x") 22) (x_at 27) (x_at 30) nowhere) ∷ []))
+for_body : uses_in (alone (def_value (codes "f") (mo.Lower (name (codes "x") 6) ∷ [])
+    (ex.For (name (codes "s") 15) (x_at 19) (one_name (codes "x") 22) (x_at 27) (x_at 30) nowhere) ∷ []))
     ≡ use_at 19 20 (Local (at 6 7)) ∷ use_at 27 28 (Local (at 6 7)) ∷ use_at 30 31 (Local (at 22 23)) ∷ []
 for_body = refl
 
 -- for (x = 3; x in []) x: of equal names the later one
-for_same : uses_in (alone (def_value (codes "f") [] (ex.For (name (codes "x") 15) (digit 19) (one_name (codes "x") 22) (ex.Array ex.no_exprs nowhere) (x_at 30) nowhere) ∷ []))
+for_same : uses_in (alone (def_value (codes "f") [] (ex.For (name (codes "x") 15) (digit 19) (one_name (codes "x") 22) (ex.Array ex.no_exprs nowhere) (x_at 30)
+    nowhere) ∷ []))
     ≡ use_at 30 31 (Local (at 22 23)) ∷ []
 for_same = refl
 
 -- map (y, x in []) x: both names hold
-map_second : uses_in (alone (def_value (codes "f") [] (ex.Map (record { first = name (codes "y") 15; second = Some (name (codes "x") 18); span = nowhere }) (ex.Array ex.no_exprs nowhere) (x_at 30) nowhere) ∷ []))
+map_second : uses_in (alone (def_value (codes "f") [] (ex.Map (record { first = name (codes "y") 15; second = Some (name (codes "x") 18); span = nowhere })
+    (ex.Array ex.no_exprs nowhere) (x_at 30) nowhere) ∷ []))
     ≡ use_at 30 31 (Local (at 18 19)) ∷ []
 map_second = refl
 
@@ -138,7 +145,8 @@ pattern_names : uses_in (alone (def_value (codes "f") (mo.Lower (name (codes "x"
 pattern_names = refl
 
 -- def F (x : P) P = P: all parameters hold in the types of the others, where none of them is a type
-param_in_type : refusal (alone (def_grammar (codes "F") (mo.TypedLower (name (codes "x") 7) (ty.Named (name (codes "P") 11)) nowhere ∷ mo.Upper (name (codes "P") 14) ∷ []) (upper (codes "P") 18) ∷ []))
+param_in_type : refusal (alone (def_grammar (codes "F") (mo.TypedLower (name (codes "x") 7) (ty.Named (name (codes "P") 11)) nowhere
+    ∷ mo.Upper (name (codes "P") 14) ∷ []) (upper (codes "P") 18) ∷ []))
     ≡ Some (e.WrongKind (at 11 12))
 param_in_type = refl
 

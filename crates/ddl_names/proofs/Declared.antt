@@ -34,25 +34,30 @@ next_local ps i p e h =
 
 pub next_param : (site : Site) (kind : Kind) (before : List Name) (scope : Scope) (ps : List Param) (i : ℕ) (p : Param) → p ≡ get_or ps i p → i < length ps →
     param_findings site kind before scope (map param_view (drop i ps))
-    ≡ again before (param_name (param_view p)) ++ demand (may_take kind (param_kind (param_view p))) (e.WrongKind (param_name (param_view p)).span) ++ typed_findings site (param_type (param_view p)) scope
+    ≡ again before (param_name (param_view p)) ++ demand (may_take kind (param_kind (param_view p))) (e.WrongKind (param_name (param_view p)).span)
+    ++ typed_findings site (param_type (param_view p)) scope
     ++ param_findings site kind (before ++ param_name (param_view p) ∷ []) scope (map param_view (drop (i + 1) ps))
 next_param site kind before scope ps i p e h = ap (λ xs. param_findings site kind before scope (map param_view xs)) (next ps i p e h)
 
-pub no_param : (site : Site) (kind : Kind) (before : List Name) (scope : Scope) (ps : List Param) (i : ℕ) → length ps ≤ i → param_findings site kind before scope (map param_view (drop i ps)) ≡ []
+pub no_param : (site : Site) (kind : Kind) (before : List Name) (scope : Scope) (ps : List Param) (i : ℕ) → length ps ≤ i
+    → param_findings site kind before scope (map param_view (drop i ps)) ≡ []
 no_param site kind before scope ps i h = ap (λ xs. param_findings site kind before scope (map param_view xs)) (drop_all i ps h)
 
 -- ---- parts of layouts
 
 a_part : (site : Site) (before : List Name) (p : mo.Part) (ps : List mo.Part) →
-    part_findings site before (p ∷ ps) ≡ once_again before (part_names p) ++ typed_findings site (part_type p) [] ++ part_findings site (before ++ part_names p) ps
+    part_findings site before (p ∷ ps) ≡ once_again before (part_names p) ++ typed_findings site (part_type p) []
+    ++ part_findings site (before ++ part_names p) ps
 a_part site before (mo.Fixed n) ps = ap (λ xs. part_findings site xs ps) (sym (append-nil before))
 a_part site before (mo.Named x t s) ps = refl
 a_part site before (mo.Unnamed t s) ps = ap (λ xs. type_findings site t [] ++ part_findings site xs ps) (sym (append-nil before))
 
 pub next_part : (site : Site) (before : List Name) (ps : List Part) (i : ℕ) (p : Part) → p ≡ get_or ps i p → i < length ps →
     part_findings site before (map part_view (drop i ps))
-    ≡ once_again before (part_names (part_view p)) ++ typed_findings site (part_type (part_view p)) [] ++ part_findings site (before ++ part_names (part_view p)) (map part_view (drop (i + 1) ps))
-next_part site before ps i p e h = ap (λ xs. part_findings site before (map part_view xs)) (next ps i p e h) ∙ a_part site before (part_view p) (map part_view (drop (i + 1) ps))
+    ≡ once_again before (part_names (part_view p)) ++ typed_findings site (part_type (part_view p)) []
+    ++ part_findings site (before ++ part_names (part_view p)) (map part_view (drop (i + 1) ps))
+next_part site before ps i p e h = ap (λ xs. part_findings site before (map part_view xs)) (next ps i p e h)
+    ∙ a_part site before (part_view p) (map part_view (drop (i + 1) ps))
 
 pub no_part : (site : Site) (before : List Name) (ps : List Part) (i : ℕ) → length ps ≤ i → part_findings site before (map part_view (drop i ps)) ≡ []
 no_part site before ps i h = ap (λ xs. part_findings site before (map part_view xs)) (drop_all i ps h)
@@ -61,7 +66,8 @@ no_part site before ps i h = ap (λ xs. part_findings site before (map part_view
 
 pub next_con : (site : Site) (before : List Name) (cs : List Con) (i : ℕ) (c : Con) → c ≡ get_or cs i c → i < length cs →
     con_findings site before (map con_view (drop i cs))
-    ≡ again before (con_view c).name ++ bits_findings site (con_view c).bits ++ con_findings site (before ++ (con_view c).name ∷ []) (map con_view (drop (i + 1) cs))
+    ≡ again before (con_view c).name ++ bits_findings site (con_view c).bits
+    ++ con_findings site (before ++ (con_view c).name ∷ []) (map con_view (drop (i + 1) cs))
 next_con site before cs i c e h = ap (λ xs. con_findings site before (map con_view xs)) (next cs i c e h)
 
 pub no_con : (site : Site) (before : List Name) (cs : List Con) (i : ℕ) → length cs ≤ i → con_findings site before (map con_view (drop i cs)) ≡ []
@@ -70,7 +76,8 @@ no_con site before cs i h = ap (λ xs. con_findings site before (map con_view xs
 -- ---- declarations
 
 pub next_decl : (site : Site) (ds : List Decl) (i : ℕ) (d : Decl) → d ≡ get_or ds i d → i < length ds →
-    flat_map (decl_findings site) (map decl_view (drop i ds)) ≡ decl_findings site (decl_view d) ++ flat_map (decl_findings site) (map decl_view (drop (i + 1) ds))
+    flat_map (decl_findings site) (map decl_view (drop i ds)) ≡ decl_findings site (decl_view d)
+    ++ flat_map (decl_findings site) (map decl_view (drop (i + 1) ds))
 next_decl site ds i d e h = ap (λ xs. flat_map (decl_findings site) (map decl_view xs)) (next ds i d e h)
 
 pub no_decl : (site : Site) (ds : List Decl) (i : ℕ) → length ds ≤ i → flat_map (decl_findings site) (map decl_view (drop i ds)) ≡ []

@@ -31,11 +31,13 @@ pub room_left : (m : ℕ) (u : SourceUnit) (us all : List SourceUnit) (old new :
 room_left m u us all old new n e more room =
     let h = counted u us all e in
     let longer = more_kept old new (map (info m) (unit_view u).tree.decls) more in
-    let same : length (map (info m) (unit_view u).tree.decls) ≡ length u.tree.decls.items = length-map (unit_view u).tree.decls (info m) ∙ length-map u.tree.decls.items decl_view in
+    let same : length (map (info m) (unit_view u).tree.decls) ≡ length u.tree.decls.items = length-map (unit_view u).tree.decls (info m)
+    ∙ length-map u.tree.decls.items decl_view in
     omega arith
 
 -- all places are taken
-pub all_first : (firsts : List ℕ) (us : List SourceUnit) (kept : List DeclInfo) → us ≡ [] → length kept + decl_count us ≡ length firsts → AreFirst firsts kept → firsts_of kept ≡ firsts
+pub all_first : (firsts : List ℕ) (us : List SourceUnit) (kept : List DeclInfo) → us ≡ [] → length kept + decl_count us ≡ length firsts → AreFirst firsts kept
+    → firsts_of kept ≡ firsts
 all_first firsts us kept e room first =
     let none : decl_count us ≡ 0 = ap decl_count e in
     let enough : length firsts ≤ length kept = omega arith in

@@ -38,15 +38,19 @@ pub refusal_behind : (us : List SourceUnit) (k : ℕ) (u : SourceUnit) (ds : Lis
     → first_refusal (rest_from us k) ≡ first_refusal (findings_from (loaded us) 0 (loaded us)) → first_refusal (found_in us k ds) ≡ None
     → first_refusal (rest_from us (k + 1)) ≡ first_refusal (findings_from (loaded us) 0 (loaded us))
 refusal_behind us k u ds h e same rest none =
-    behind (found_in us k ds) (rest_from us (k + 1)) (findings_from (loaded us) 0 (loaded us)) (ap first_refusal (sym (next_module us k u ds h e same)) ∙ rest) none
+    behind (found_in us k ds) (rest_from us (k + 1)) (findings_from (loaded us) 0 (loaded us)) (ap first_refusal (sym (next_module us k u ds h e same))
+    ∙ rest) none
 
-pub refusal_within : (us : List SourceUnit) (k : ℕ) (u : SourceUnit) (ds : List Decl) (r : NameError) → k < length us → u ≡ get_or us k u → ds ≡ u.tree.decls.items
+pub refusal_within : (us : List SourceUnit) (k : ℕ) (u : SourceUnit) (ds : List Decl) (r : NameError) → k < length us → u ≡ get_or us k u
+    → ds ≡ u.tree.decls.items
     → first_refusal (rest_from us k) ≡ first_refusal (findings_from (loaded us) 0 (loaded us)) → IsFirst (found_in us k ds) r
     → IsFirst (findings_from (loaded us) 0 (loaded us)) r
 refusal_within us k u ds r h e same rest =
-    in_front (found_in us k ds) (rest_from us (k + 1)) (findings_from (loaded us) 0 (loaded us)) r (ap first_refusal (sym (next_module us k u ds h e same)) ∙ rest)
+    in_front (found_in us k ds) (rest_from us (k + 1)) (findings_from (loaded us) 0 (loaded us)) r (ap first_refusal (sym (next_module us k u ds h e same))
+    ∙ rest)
 
-pub uses_behind : (us : List SourceUnit) (k : ℕ) (u : SourceUnit) (ds : List Decl) (old new all : List Use) → k < length us → u ≡ get_or us k u → ds ≡ u.tree.decls.items
+pub uses_behind : (us : List SourceUnit) (k : ℕ) (u : SourceUnit) (ds : List Decl) (old new all : List Use) → k < length us → u ≡ get_or us k u
+    → ds ≡ u.tree.decls.items
     → old ++ all_uses (rest_from us k) ≡ all → new ≡ old ++ all_uses (found_in us k ds) → new ++ all_uses (rest_from us (k + 1)) ≡ all
 uses_behind us k u ds old new all h e same rest more =
     ap (λ xs. xs ++ all_uses (rest_from us (k + 1))) more ∙ append_assoc old (all_uses (found_in us k ds)) (all_uses (rest_from us (k + 1)))
@@ -63,13 +67,17 @@ pub all_taken : (us : List SourceUnit) (k : ℕ) (uses all : List Use) → lengt
 all_taken us k uses all past rest = sym (append-nil uses) ∙ ap (λ fs. uses ++ all_uses fs) (sym (none_left us k past)) ∙ rest
 
 -- the same, as a program has its parts: what it holds are these modules
-pub module_refuses : (us held : List SourceUnit) (k : ℕ) (u : SourceUnit) (ds : List Decl) (r : NameError) → held ≡ us → k < length us → u ≡ get_or us k u → ds ≡ u.tree.decls.items
+pub module_refuses : (us held : List SourceUnit) (k : ℕ) (u : SourceUnit) (ds : List Decl) (r : NameError) → held ≡ us → k < length us → u ≡ get_or us k u
+    → ds ≡ u.tree.decls.items
     → first_refusal (findings_from (loaded us) k (loaded (drop k us))) ≡ first_refusal (findings_from (loaded us) 0 (loaded us))
-    → IsFirst (flat_map (decl_findings (record { units = map unit_view held; here = k })) (map decl_view ds)) r → IsFirst (findings_from (loaded us) 0 (loaded us)) r
+    → IsFirst (flat_map (decl_findings (record { units = map unit_view held; here = k })) (map decl_view ds)) r
+    → IsFirst (findings_from (loaded us) 0 (loaded us)) r
 module_refuses us held k u ds r all h e same rest first =
-    refusal_within us k u ds r h e same rest (subst (λ (vs : List SourceUnit). IsFirst (flat_map (decl_findings (record { units = map unit_view vs; here = k })) (map decl_view ds)) r) all first)
+    refusal_within us k u ds r h e same rest (subst (λ (vs : List SourceUnit). IsFirst
+    (flat_map (decl_findings (record { units = map unit_view vs; here = k })) (map decl_view ds)) r) all first)
 
-pub module_passes : (us held : List SourceUnit) (k : ℕ) (u : SourceUnit) (ds : List Decl) → held ≡ us → k < length us → u ≡ get_or us k u → ds ≡ u.tree.decls.items
+pub module_passes : (us held : List SourceUnit) (k : ℕ) (u : SourceUnit) (ds : List Decl) → held ≡ us → k < length us → u ≡ get_or us k u
+    → ds ≡ u.tree.decls.items
     → first_refusal (findings_from (loaded us) k (loaded (drop k us))) ≡ first_refusal (findings_from (loaded us) 0 (loaded us))
     → first_refusal (flat_map (decl_findings (record { units = map unit_view held; here = k })) (map decl_view ds)) ≡ None
     → first_refusal (findings_from (loaded us) (k + 1) (loaded (drop (k + 1) us))) ≡ first_refusal (findings_from (loaded us) 0 (loaded us))
@@ -77,7 +85,8 @@ module_passes us held k u ds all h e same rest none =
     refusal_behind us k u ds h e same rest
     (ap (λ vs. first_refusal (flat_map (decl_findings (record { units = map unit_view vs; here = k })) (map decl_view ds))) (sym all) ∙ none)
 
-pub module_adds : (us held : List SourceUnit) (k : ℕ) (u : SourceUnit) (ds : List Decl) (old new whole : List Use) → held ≡ us → k < length us → u ≡ get_or us k u → ds ≡ u.tree.decls.items
+pub module_adds : (us held : List SourceUnit) (k : ℕ) (u : SourceUnit) (ds : List Decl) (old new whole : List Use) → held ≡ us → k < length us
+    → u ≡ get_or us k u → ds ≡ u.tree.decls.items
     → old ++ all_uses (findings_from (loaded us) k (loaded (drop k us))) ≡ whole
     → new ≡ old ++ all_uses (flat_map (decl_findings (record { units = map unit_view held; here = k })) (map decl_view ds))
     → new ++ all_uses (findings_from (loaded us) (k + 1) (loaded (drop (k + 1) us))) ≡ whole
@@ -99,7 +108,8 @@ no_uses_twice : (before xs : List Name) → all_uses (twice_among before xs) ≡
 no_uses_twice before [] = refl
 no_uses_twice before (x ∷ xs) =
     uses_append (again before x) (twice_among (before ++ x ∷ []) xs)
-    ∙ ap (λ us. us ++ all_uses (twice_among (before ++ x ∷ []) xs)) (no_uses_again x (find (λ y. bytes_eq y.text x.text) before)) ∙ no_uses_twice (before ++ x ∷ []) xs
+    ∙ ap (λ us. us ++ all_uses (twice_among (before ++ x ∷ []) xs)) (no_uses_again x (find (λ y. bytes_eq y.text x.text) before))
+    ∙ no_uses_twice (before ++ x ∷ []) xs
 
 no_uses_declared : (units : List Loaded) → all_uses (flat_map declared_twice units) ≡ []
 no_uses_declared [] = refl
@@ -116,31 +126,41 @@ part_2 us = flat_map declared_twice (loaded us)
 abbrev part_3 : List SourceUnit → List Finding
 part_3 us = findings_from (loaded us) 0 (loaded us)
 
-in_parts : (us : List SourceUnit) → first_refusal (all_findings (loaded us)) ≡ option_or (option_or (first_refusal (part_1 us)) (first_refusal (part_2 us))) (first_refusal (part_3 us))
+in_parts : (us : List SourceUnit) → first_refusal (all_findings (loaded us))
+    ≡ option_or (option_or (first_refusal (part_1 us)) (first_refusal (part_2 us))) (first_refusal (part_3 us))
 in_parts us = first_append (part_1 us ++ part_2 us) (part_3 us) ∙ ap (λ o. option_or o (first_refusal (part_3 us))) (first_append (part_1 us) (part_2 us))
 
 pub stops_first : (us : List SourceUnit) (r : NameError) → IsFirst (too_many (one_too_many (loaded us))) r → IsFirst (all_findings (loaded us)) r
-stops_first us r = moved (part_1 us) (all_findings (loaded us)) r (λ h. in_parts us ∙ ap (λ o. option_or (option_or o (first_refusal (part_2 us))) (first_refusal (part_3 us))) h)
+stops_first us r = moved (part_1 us) (all_findings (loaded us)) r (λ h. in_parts us
+    ∙ ap (λ o. option_or (option_or o (first_refusal (part_2 us))) (first_refusal (part_3 us))) h)
 
-pub stops_second : (us : List SourceUnit) (r : NameError) → first_refusal (too_many (one_too_many (loaded us))) ≡ None → IsFirst (flat_map declared_twice (loaded us)) r → IsFirst (all_findings (loaded us)) r
+pub stops_second : (us : List SourceUnit) (r : NameError) → first_refusal (too_many (one_too_many (loaded us))) ≡ None
+    → IsFirst (flat_map declared_twice (loaded us)) r → IsFirst (all_findings (loaded us)) r
 stops_second us r first =
     moved (part_2 us) (all_findings (loaded us)) r
-    (λ h. in_parts us ∙ ap (λ o. option_or (option_or o (first_refusal (part_2 us))) (first_refusal (part_3 us))) first ∙ ap (λ o. option_or o (first_refusal (part_3 us))) h)
+    (λ h. in_parts us ∙ ap (λ o. option_or (option_or o (first_refusal (part_2 us))) (first_refusal (part_3 us))) first
+    ∙ ap (λ o. option_or o (first_refusal (part_3 us))) h)
 
-pub stops_third : (us : List SourceUnit) (r : NameError) → first_refusal (too_many (one_too_many (loaded us))) ≡ None → first_refusal (flat_map declared_twice (loaded us)) ≡ None
+pub stops_third : (us : List SourceUnit) (r : NameError) → first_refusal (too_many (one_too_many (loaded us))) ≡ None
+    → first_refusal (flat_map declared_twice (loaded us)) ≡ None
     → IsFirst (findings_from (loaded us) 0 (loaded us)) r → IsFirst (all_findings (loaded us)) r
 stops_third us r first second =
     moved (part_3 us) (all_findings (loaded us)) r
-    (λ h. in_parts us ∙ ap (λ o. option_or (option_or o (first_refusal (part_2 us))) (first_refusal (part_3 us))) first ∙ ap (λ o. option_or o (first_refusal (part_3 us))) second ∙ h)
+    (λ h. in_parts us ∙ ap (λ o. option_or (option_or o (first_refusal (part_2 us))) (first_refusal (part_3 us))) first
+    ∙ ap (λ o. option_or o (first_refusal (part_3 us))) second ∙ h)
 
-pub no_refusal : (us : List SourceUnit) → first_refusal (too_many (one_too_many (loaded us))) ≡ None → first_refusal (flat_map declared_twice (loaded us)) ≡ None
+pub no_refusal : (us : List SourceUnit) → first_refusal (too_many (one_too_many (loaded us))) ≡ None
+    → first_refusal (flat_map declared_twice (loaded us)) ≡ None
     → first_refusal (findings_from (loaded us) 0 (loaded us)) ≡ None → first_refusal (all_findings (loaded us)) ≡ None
 no_refusal us first second third =
-    in_parts us ∙ ap (λ o. option_or (option_or o (first_refusal (part_2 us))) (first_refusal (part_3 us))) first ∙ ap (λ o. option_or o (first_refusal (part_3 us))) second ∙ third
+    in_parts us ∙ ap (λ o. option_or (option_or o (first_refusal (part_2 us))) (first_refusal (part_3 us))) first
+    ∙ ap (λ o. option_or o (first_refusal (part_3 us))) second ∙ third
 
-pub uses_of_all : (us : List SourceUnit) (uses : List Use) → uses ≡ all_uses (findings_from (loaded us) 0 (loaded us)) → uses ≡ all_uses (all_findings (loaded us))
+pub uses_of_all : (us : List SourceUnit) (uses : List Use) → uses ≡ all_uses (findings_from (loaded us) 0 (loaded us))
+    → uses ≡ all_uses (all_findings (loaded us))
 uses_of_all us uses h =
     h ∙ sym (uses_append (part_1 us ++ part_2 us) (part_3 us) ∙ ap (λ xs. xs ++ all_uses (part_3 us)) (uses_append (part_1 us) (part_2 us))
-    ∙ ap (λ xs. (xs ++ all_uses (part_2 us)) ++ all_uses (part_3 us)) (no_uses_many (one_too_many (loaded us))) ∙ ap (λ xs. xs ++ all_uses (part_3 us)) (no_uses_declared (loaded us)))
+    ∙ ap (λ xs. (xs ++ all_uses (part_2 us)) ++ all_uses (part_3 us)) (no_uses_many (one_too_many (loaded us)))
+    ∙ ap (λ xs. xs ++ all_uses (part_3 us)) (no_uses_declared (loaded us)))
 
 pub ruleset gathering = (module_refuses, nothing_refused, all_taken, stops_first, stops_second, stops_third, no_refusal, uses_of_all)

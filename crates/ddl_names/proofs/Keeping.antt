@@ -19,7 +19,8 @@ use Rattle.ddl_names.specs.Resolves.{AreBound, AreResolved, Info, IsResolved, fi
 abbrev parts : ℕ → mo.Decl → List ℕ → Kind → List Kind → Info
 parts m d name kind params = record { unit = m; name = name; kind = kind; params = params; decl = d }
 
-pub made : (m : ℕ) (d : mo.Decl) (name : List ℕ) (kind : Kind) (params : List Kind) → name ≡ (decl_name d).text → kind ≡ decl_kind d → params ≡ map param_kind (decl_params d)
+pub made : (m : ℕ) (d : mo.Decl) (name : List ℕ) (kind : Kind) (params : List Kind) → name ≡ (decl_name d).text → kind ≡ decl_kind d
+    → params ≡ map param_kind (decl_params d)
     → parts m d name kind params ≡ info m d
 made m d name kind params e f g =
     ap (λ x. parts m d x kind params) e ∙ ap (λ x. parts m d (decl_name d).text x params) f ∙ ap (λ x. parts m d (decl_name d).text (decl_kind d) x) g
@@ -39,7 +40,8 @@ pub decls_kept : (m : ℕ) (ds : List Decl) (xs whole : List Info) → ds ≡ []
 decls_kept m ds xs whole e h = sym (append-nil xs) ∙ ap (λ es. xs ++ map (info m) (map decl_view es)) (sym e) ∙ h
 
 -- one module more is kept
-pub unit_kept : (m : ℕ) (u : SourceUnit) (us all : List SourceUnit) (old new whole : List Info) → all ≡ u ∷ us → new ≡ old ++ map (info m) (unit_view u).tree.decls
+pub unit_kept : (m : ℕ) (u : SourceUnit) (us all : List SourceUnit) (old new whole : List Info) → all ≡ u ∷ us
+    → new ≡ old ++ map (info m) (unit_view u).tree.decls
     → old ++ infos_from m (loaded all) ≡ whole → new ++ infos_from (m + 1) (loaded us) ≡ whole
 unit_kept m u us all old new whole e more h =
     ap (λ xs. xs ++ infos_from (m + 1) (loaded us)) more ∙ append_assoc old (map (info m) (unit_view u).tree.decls) (infos_from (m + 1) (loaded us))

@@ -12,7 +12,8 @@ use Rattle.ddl_tree.specs.ExprTree as ex
 use Rattle.ddl_tree.specs.ModuleTree as mo
 use Rattle.ddl_kinds.specs.declared.error.NameError.TheVariants as e
 use Rattle.ddl_names.specs.Modules.{refusal}
-use Rattle.ddl_names.proofs.RowForms.{alone, at, block, byte, def_grammar, def_main, def_value, digit, exprs, field_x, lower, main, name, nowhere, plain, pure, upper}
+use Rattle.ddl_names.proofs.RowForms.{alone, at, block, byte, def_grammar, def_main, def_value, digit, exprs, field_x, lower, main, name, nowhere, plain, pure}
+use Rattle.ddl_names.proofs.RowForms.{upper}
 
 abbrev call : List ℕ → ℕ → List ex.Expr → ex.Expr
 call x i xs = ex.CallGrammar (name x i) (exprs xs) nowhere
@@ -101,7 +102,8 @@ none_given : refusal (main (upper (codes "Match") 11)) ≡ Some (e.WrongCount (a
 none_given = refl
 
 -- def F P = P UInt8: a parameter takes no arguments
-parameter : refusal (alone (def_grammar (codes "F") (mo.Upper (name (codes "P") 6) ∷ []) (call (codes "P") 10 (byte ∷ [])) ∷ [])) ≡ Some (e.WrongCount (at 10 11) 1 0)
+parameter : refusal (alone (def_grammar (codes "F") (mo.Upper (name (codes "P") 6) ∷ []) (call (codes "P") 10 (byte ∷ [])) ∷ []))
+    ≡ Some (e.WrongCount (at 10 11) 1 0)
 parameter = refl
 
 -- def f P = 3: a value has value parameters alone

@@ -1,5 +1,6 @@
 -- Declarations that stand twice, or are too many.
-use Rattle.std.proofs.Common.{◌≡◌, ℕ, zero, suc, ◌+◌, ◌<◌, ◌≤◌, List, [], ◌∷◌, ◌++◌, length, map, take, drop, get_or, Bool, true, false, cond, Option, Some, None, refl, ap, sym, subst, ◌∙◌, add-one, true≢false, is_some, arith}
+use Rattle.std.proofs.Common.{◌≡◌, ℕ, zero, suc, ◌+◌, ◌<◌, ◌≤◌, List, [], ◌∷◌, ◌++◌, length, map, take, drop, get_or, Bool, true, false, cond, Option, Some}
+use Rattle.std.proofs.Common.{None, refl, ap, sym, subst, ◌∙◌, add-one, true≢false, is_some, arith}
 use Rattle.std.specs.Prelude.{bytes_eq, find, flat_map, option_map, slice_get, unwrap_or}
 use Rattle.std.specs.Option.{option_or}
 use Rattle.std.specs.HashMap.{HashMap}
@@ -57,7 +58,8 @@ names_dropped ds k d h e =
     drop-map decl_name k (map decl_view ds) ∙ ap (map decl_name) (drop-map decl_view k ds) ∙ ap names (next_dropped ds k d h e)
     ∙ ap (λ ns. decl_name (decl_view d) ∷ ns) (sym (drop-map decl_name (k + 1) (map decl_view ds) ∙ ap (map decl_name) (drop-map decl_view (k + 1) ds)))
 
-names_taken : (ds : List Decl) (k : ℕ) (d : Decl) → k < length ds → d ≡ get_or ds k d → take (k + 1) (names ds) ≡ take k (names ds) ++ decl_name (decl_view d) ∷ []
+names_taken : (ds : List Decl) (k : ℕ) (d : Decl) → k < length ds → d ≡ get_or ds k d
+    → take (k + 1) (names ds) ≡ take k (names ds) ++ decl_name (decl_view d) ∷ []
 names_taken ds k d h e =
     taken (k + 1) ∙ ap names (take_more ds k d h ∙ ap (λ x. take k ds ++ x ∷ []) (sym e))
     ∙ ap (map decl_name) (map-append decl_view (take k ds) (d ∷ [])) ∙ map-append decl_name (map decl_view (take k ds)) (decl_view d ∷ [])
@@ -73,13 +75,15 @@ not_found (Some y) h = absurd (true≢false (ap is_some h))
 -- what is found in the rest, where the next name stands for the first time
 first_time : (before rest : List Name) (x : Name) → option_map (λ y. y.span) (find (λ y. bytes_eq y.text x.text) before) ≡ None
     → first_refusal (twice_among before (x ∷ rest)) ≡ first_refusal (twice_among (before ++ x ∷ []) rest)
-first_time before rest x h = ap (λ o. first_refusal (twice_after x o ++ twice_among (before ++ x ∷ []) rest)) (not_found (find (λ y. bytes_eq y.text x.text) before) h)
+first_time before rest x h = ap (λ o. first_refusal (twice_after x o ++ twice_among (before ++ x ∷ []) rest))
+    (not_found (find (λ y. bytes_eq y.text x.text) before) h)
 
 second_time : (before rest : List Name) (x : Name) (first : Span) → option_map (λ y. y.span) (find (λ y. bytes_eq y.text x.text) before) ≡ Some first
     → first_refusal (twice_among before (x ∷ rest)) ≡ Some (e.Twice x.span first)
 second_time before rest x first h = by (find (λ y. bytes_eq y.text x.text) before) h
   where
-    by : (o : Option Name) → option_map (λ y. y.span) o ≡ Some first → first_refusal (twice_after x o ++ twice_among (before ++ x ∷ []) rest) ≡ Some (e.Twice x.span first)
+    by : (o : Option Name) → option_map (λ y. y.span) o ≡ Some first
+        → first_refusal (twice_after x o ++ twice_among (before ++ x ∷ []) rest) ≡ Some (e.Twice x.span first)
     by None h = absurd (true≢false (sym (ap is_some h)))
     by (Some y) h = ap (λ s. Some (e.Twice x.span s)) (ap (λ o. unwrap_or o first) h)
 
@@ -106,16 +110,19 @@ find_more [] x q = refl
 find_more (n ∷ ns) x q = by (bytes_eq n.text q) (find_more ns x q)
   where
     by : (b : Bool) → find (λ y. bytes_eq y.text q) (ns ++ x ∷ []) ≡ option_or (find (λ y. bytes_eq y.text q) ns) (cond (bytes_eq x.text q) (Some x) None)
-        → cond b (Some n) (find (λ y. bytes_eq y.text q) (ns ++ x ∷ [])) ≡ option_or (cond b (Some n) (find (λ y. bytes_eq y.text q) ns)) (cond (bytes_eq x.text q) (Some x) None)
+        → cond b (Some n) (find (λ y. bytes_eq y.text q) (ns ++ x ∷ []))
+        ≡ option_or (cond b (Some n) (find (λ y. bytes_eq y.text q) ns)) (cond (bytes_eq x.text q) (Some x) None)
     by true h = refl
     by false h = h
 
-spans_or : (o : Option Name) (b : Bool) (x : Name) → option_or (option_map (λ y. y.span) o) (cond b (Some x.span) None) ≡ option_map (λ y. y.span) (option_or o (cond b (Some x) None))
+spans_or : (o : Option Name) (b : Bool) (x : Name) → option_or (option_map (λ y. y.span) o) (cond b (Some x.span) None)
+    ≡ option_map (λ y. y.span) (option_or o (cond b (Some x) None))
 spans_or None true x = refl
 spans_or None false x = refl
 spans_or (Some y) b x = refl
 
-pub place_more : {S : Type 0} (ds : List Decl) (k : ℕ) (d : Decl) (text : List ℕ) (span : Span) (old new : HashMap (Bor (List ℕ)) Span S) → k < length ds → d ≡ get_or ds k d
+pub place_more : {S : Type 0} (ds : List Decl) (k : ℕ) (d : Decl) (text : List ℕ) (span : Span) (old new : HashMap (Bor (List ℕ)) Span S) → k < length ds
+    → d ≡ get_or ds k d
     → text ≡ (decl_name (decl_view d)).text → span ≡ (decl_name (decl_view d)).span
     → ((q : List ℕ) → at_text new q ≡ option_or (at_text old q) (cond (bytes_eq text q) (Some span) None))
     → ArePlaced (take k (names ds)) old → ArePlaced (take (k + 1) (names ds)) new
@@ -132,13 +139,15 @@ place_more ds k d text span old new h e same there u kept q =
     found = option_map (λ y. y.span) (find (λ y. bytes_eq y.text q) (take k (names ds)))
 
 pub all_differ : (ds : List Decl) (k : ℕ) → length ds ≤ k → first_refusal (twice_among (take k (names ds)) (drop k (names ds))) ≡ None
-all_differ ds k past = ap (λ ns. first_refusal (twice_among (take k (names ds)) ns)) (drop_all k (names ds) (subst (λ n. n ≤ k) (sym (length-map (map decl_view ds) decl_name ∙ length-map ds decl_view)) past))
+all_differ ds k past = ap (λ ns. first_refusal (twice_among (take k (names ds)) ns))
+    (drop_all k (names ds) (subst (λ n. n ≤ k) (sym (length-map (map decl_view ds) decl_name ∙ length-map ds decl_view)) past))
 
 -- ---- all modules
 
 modules_dropped : (us : List SourceUnit) (k : ℕ) (u : SourceUnit) → k < length us → u ≡ get_or us k u
     → flat_map declared_twice (loaded (drop k us)) ≡ declared_twice (unit_view u) ++ flat_map declared_twice (loaded (drop (k + 1) us))
-modules_dropped us k u h e = ap (λ vs. flat_map declared_twice (loaded vs)) (next_dropped us k u h e) ∙ flat_map-cons declared_twice (unit_view u) (loaded (drop (k + 1) us))
+modules_dropped us k u h e = ap (λ vs. flat_map declared_twice (loaded vs)) (next_dropped us k u h e)
+    ∙ flat_map-cons declared_twice (unit_view u) (loaded (drop (k + 1) us))
 
 pub module_differs : (us : List SourceUnit) (k : ℕ) (u : SourceUnit) → k < length us → u ≡ get_or us k u
     → first_refusal (flat_map declared_twice (loaded (drop k us))) ≡ first_refusal (flat_map declared_twice (loaded us))
@@ -170,7 +179,8 @@ back [] ys m n h = ap (slice_get ys) (omega arith)
 back (x ∷ xs) ys m zero h = absurd (omega arith)
 back (x ∷ xs) ys m (suc n) h = back xs ys m n (omega arith)
 
-decls_dropped : (us : List SourceUnit) (k : ℕ) (u : SourceUnit) → k < length us → u ≡ get_or us k u → all_decls (drop k us) ≡ map decl_view u.tree.decls.items ++ all_decls (drop (k + 1) us)
+decls_dropped : (us : List SourceUnit) (k : ℕ) (u : SourceUnit) → k < length us → u ≡ get_or us k u
+    → all_decls (drop k us) ≡ map decl_view u.tree.decls.items ++ all_decls (drop (k + 1) us)
 decls_dropped us k u h e = ap all_decls (next_dropped us k u h e) ∙ flat_map-cons (λ v. v.tree.decls) (unit_view u) (loaded (drop (k + 1) us))
 
 abbrev span_of : Option mo.Decl → Option Span
@@ -181,22 +191,26 @@ view_at [] n d h e = absurd (omega arith)
 view_at (x ∷ ds) zero d h e = ap (λ y. Some (decl_view y)) (sym e)
 view_at (x ∷ ds) (suc n) d h e = view_at ds n d (omega arith) e
 
-pub decl_here : (us : List SourceUnit) (k : ℕ) (u : SourceUnit) (left : ℕ) (d : Decl) → k < length us → u ≡ get_or us k u → left < length u.tree.decls.items → d ≡ get_or u.tree.decls.items left d
+pub decl_here : (us : List SourceUnit) (k : ℕ) (u : SourceUnit) (left : ℕ) (d : Decl) → k < length us → u ≡ get_or us k u → left < length u.tree.decls.items
+    → d ≡ get_or u.tree.decls.items left d
     → span_of (slice_get (all_decls (drop k us)) left) ≡ Some (decl_name (decl_view d)).span
 decl_here us k u left d h e less at =
     ap (λ ds. span_of (slice_get ds left)) (decls_dropped us k u h e)
-    ∙ ap span_of (front (map decl_view u.tree.decls.items) (all_decls (drop (k + 1) us)) left (subst (λ n. left < n) (sym (length-map u.tree.decls.items decl_view)) less) ∙ view_at u.tree.decls.items left d less at)
+    ∙ ap span_of (front (map decl_view u.tree.decls.items) (all_decls (drop (k + 1) us)) left
+    (subst (λ n. left < n) (sym (length-map u.tree.decls.items decl_view)) less) ∙ view_at u.tree.decls.items left d less at)
 
 pub decl_behind : (us : List SourceUnit) (k : ℕ) (u : SourceUnit) (left less : ℕ) → k < length us → u ≡ get_or us k u → left ≡ length u.tree.decls.items + less
     → span_of (slice_get (all_decls (drop k us)) left) ≡ span_of (slice_get (all_decls (drop (k + 1) us)) less)
 decl_behind us k u left less h e more =
     ap (λ ds. span_of (slice_get ds left)) (decls_dropped us k u h e)
-    ∙ ap span_of (back (map decl_view u.tree.decls.items) (all_decls (drop (k + 1) us)) less left (more ∙ ap (λ n. n + less) (sym (length-map u.tree.decls.items decl_view))))
+    ∙ ap span_of (back (map decl_view u.tree.decls.items) (all_decls (drop (k + 1) us)) less left (more
+    ∙ ap (λ n. n + less) (sym (length-map u.tree.decls.items decl_view))))
 
 pub rest_of : (us others : List SourceUnit) (u : SourceUnit) → us ≡ u ∷ others → others ≡ drop 1 us
 rest_of us others u e = ap (drop 1) (sym e)
 
-pub without_prelude : (us : List SourceUnit) (n : ℕ) → span_of (slice_get (all_decls (drop 1 us)) n) ≡ span_of (slice_get (flat_map (λ u. u.tree.decls) (drop 1 (loaded us))) n)
+pub without_prelude : (us : List SourceUnit) (n : ℕ) → span_of (slice_get (all_decls (drop 1 us)) n)
+    ≡ span_of (slice_get (flat_map (λ u. u.tree.decls) (drop 1 (loaded us))) n)
 without_prelude us n = ap (λ vs. span_of (slice_get (flat_map (λ u. u.tree.decls) vs) n)) (sym (drop-map unit_view 1 us))
 
 pub few : (o : Option mo.Decl) → span_of o ≡ None → first_refusal (too_many o) ≡ None
@@ -207,4 +221,17 @@ pub many : (o : Option mo.Decl) (s : Span) → span_of o ≡ Some s → first_re
 many None s h = absurd (true≢false (sym (ap is_some h)))
 many (Some d) s h = ap (λ t. Some (e.TooManyDecls t)) (ap (λ o. unwrap_or o s) h)
 
-pub ruleset refusing = (differs, stands_twice, place_more, all_differ, module_differs, module_stops, decl_here, decl_behind, rest_of, without_prelude, few, many)
+pub ruleset refusing = (
+  differs,
+  stands_twice,
+  place_more,
+  all_differ,
+  module_differs,
+  module_stops,
+  decl_here,
+  decl_behind,
+  rest_of,
+  without_prelude,
+  few,
+  many,
+)

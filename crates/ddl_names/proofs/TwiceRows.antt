@@ -8,10 +8,12 @@ use Rattle.ddl_tree.specs.ExprTree as ex
 use Rattle.ddl_tree.specs.ModuleTree as mo
 use Rattle.ddl_kinds.specs.declared.error.NameError.TheVariants as e
 use Rattle.ddl_names.specs.Modules.{refusal}
-use Rattle.ddl_names.proofs.RowForms.{alone, at, block, byte, def_grammar, def_main, def_value, digit, field_x, let_x, lower, main, module_of, name, nowhere, pure, upper}
+use Rattle.ddl_names.proofs.RowForms.{alone, at, block, byte, def_grammar, def_main, def_value, digit, field_x, let_x, lower, main, module_of, name, nowhere}
+use Rattle.ddl_names.proofs.RowForms.{pure, upper}
 
 -- def Main = ^ 3; def Main = ^ 3
-declarations : refusal (alone (mo.Grammar (name (codes "Main") 4) [] None (pure (digit 13)) nowhere ∷ mo.Grammar (name (codes "Main") 19) [] None (pure (digit 28)) nowhere ∷ []))
+declarations : refusal (alone (mo.Grammar (name (codes "Main") 4) [] None (pure (digit 13)) nowhere
+    ∷ mo.Grammar (name (codes "Main") 19) [] None (pure (digit 28)) nowhere ∷ []))
     ≡ Some (e.Twice (at 19 23) (at 4 8))
 declarations = refl
 
@@ -20,12 +22,14 @@ bitdata_too : refusal (alone (def_grammar (codes "B") [] byte ∷ mo.BitsUnion (
 bitdata_too = refl
 
 -- declarations that stand twice come before all else, also in a module behind
-declarations_first : refusal (module_of [] [] ∷ module_of [] (def_main (upper (codes "Foo") 11) ∷ []) ∷ module_of [] (def_grammar (codes "F") [] byte ∷ mo.Grammar (name (codes "F") 20) [] None byte nowhere ∷ []) ∷ [])
+declarations_first : refusal (module_of [] [] ∷ module_of [] (def_main (upper (codes "Foo") 11) ∷ [])
+    ∷ module_of [] (def_grammar (codes "F") [] byte ∷ mo.Grammar (name (codes "F") 20) [] None byte nowhere ∷ []) ∷ [])
     ≡ Some (e.Twice (at 20 21) (at 4 5))
 declarations_first = refl
 
 -- def f x x = 3
-parameters : refusal (alone (def_value (codes "f") (mo.Lower (name (codes "x") 6) ∷ mo.Lower (name (codes "x") 8) ∷ []) (digit 12) ∷ [])) ≡ Some (e.Twice (at 8 9) (at 6 7))
+parameters : refusal (alone (def_value (codes "f") (mo.Lower (name (codes "x") 6) ∷ mo.Lower (name (codes "x") 8) ∷ []) (digit 12) ∷ []))
+    ≡ Some (e.Twice (at 8 9) (at 6 7))
 parameters = refl
 
 -- block { x = UInt8; x = Foo }: the name comes before what stands behind it
@@ -60,11 +64,13 @@ tags = refl
 
 -- case v of { x -> 3; x -> 3 }: the first alternative that fits is taken
 same_patterns : refusal (alone (def_value (codes "f") (mo.Lower (name (codes "v") 6) ∷ []) (ex.Case (lower (codes "v") 15)
-    (ex.an_alt (pat.Tag (name (codes "x") 20) None nowhere) (digit 24) nowhere (ex.an_alt (pat.Tag (name (codes "x") 30) None nowhere) (digit 34) nowhere ex.no_alts)) nowhere) ∷ [])) ≡ None
+    (ex.an_alt (pat.Tag (name (codes "x") 20) None nowhere) (digit 24) nowhere
+    (ex.an_alt (pat.Tag (name (codes "x") 30) None nowhere) (digit 34) nowhere ex.no_alts)) nowhere) ∷ [])) ≡ None
 same_patterns = refl
 
 abbrev two_parts : mo.Bits
-two_parts = mo.Parts (mo.Named (name (codes "x") 20) (ty.Bool nowhere) nowhere ∷ mo.Unnamed (ty.Bool nowhere) nowhere ∷ mo.Named (name (codes "x") 30) (ty.Bool nowhere) nowhere ∷ []) nowhere
+two_parts = mo.Parts (mo.Named (name (codes "x") 20) (ty.Bool nowhere) nowhere ∷ mo.Unnamed (ty.Bool nowhere) nowhere
+    ∷ mo.Named (name (codes "x") 30) (ty.Bool nowhere) nowhere ∷ []) nowhere
 
 -- bitdata B = { x : bool, _ : bool, x : bool }
 parts : refusal (alone (mo.BitsDef (name (codes "B") 8) two_parts nowhere ∷ [])) ≡ Some (e.Twice (at 30 31) (at 20 21))

@@ -63,8 +63,10 @@ module _ (site : Site) where
 
   -- the body of a declaration is of the kind of its name
   abbrev pub decl_findings : mo.Decl → List Finding
-  decl_findings (mo.Grammar x ps t e s) = param_findings k.Grammar [] (param_scope ps) ps ++ typed_findings site t (param_scope ps) ++ findings site e w.Grammar (param_scope ps)
-  decl_findings (mo.Value x ps t e s) = param_findings k.Value [] (param_scope ps) ps ++ typed_findings site t (param_scope ps) ++ findings site e w.Value (param_scope ps)
+  decl_findings (mo.Grammar x ps t e s) = param_findings k.Grammar [] (param_scope ps) ps ++ typed_findings site t (param_scope ps)
+      ++ findings site e w.Grammar (param_scope ps)
+  decl_findings (mo.Value x ps t e s) = param_findings k.Value [] (param_scope ps) ps ++ typed_findings site t (param_scope ps)
+      ++ findings site e w.Value (param_scope ps)
   decl_findings (mo.ClassDef x c s) = class_findings site c []
   decl_findings (mo.BitsDef x b s) = bits_findings b
   decl_findings (mo.BitsUnion x cs s) = con_findings [] cs

@@ -25,7 +25,11 @@ fn take_definition<'a>(
     body: &'a Expr,
 ) -> Result<(), NameError>
     requires { IsOuter walk.old.outer }
-    ensures found { let scope = param_scope (map param_view params.now) in Finds (param_findings (site_view walk.old.outer) kind [] scope (map param_view params.now) ++ typed_findings (site_view walk.old.outer) (typed_view typed.now) scope ++ findings (site_view walk.old.outer) (view body.now) want scope) walk.old.uses.items walk.new.uses.items result }
+    ensures found { let scope = param_scope (map param_view params.now)
+        in Finds (param_findings (site_view walk.old.outer) kind [] scope (map param_view params.now)
+        ++ typed_findings (site_view walk.old.outer) (typed_view typed.now) scope
+        ++ findings (site_view walk.old.outer) (view body.now) want scope) walk.old.uses.items walk.new.uses.items
+        result }
     ensures here { OnOk result (walk.new.outer ≡ walk.old.outer) }
 {
     walk.scope = scope_of(walk.alloc, params)?;
@@ -46,7 +50,8 @@ fn take_definition<'a>(
 #[tactic(auto, using(ddl_kinds::proofs::Finding::finding))]
 fn take_decl<'a>(walk: &mut Walk<'a>, decl: &'a Decl) -> Result<(), NameError>
     requires { IsOuter walk.old.outer }
-    ensures found { Finds (decl_findings (site_view walk.old.outer) (decl_view decl.now)) walk.old.uses.items walk.new.uses.items result }
+    ensures found { Finds (decl_findings (site_view walk.old.outer) (decl_view decl.now)) walk.old.uses.items
+        walk.new.uses.items result }
     ensures here { OnOk result (walk.new.outer ≡ walk.old.outer) }
 {
     match decl {
@@ -92,7 +97,8 @@ fn take_next<'a>(
     decl: &'a Decl,
 ) -> Result<(), NameError>
     requires { IsOuter walk.old.outer }
-    ensures found { Finds (decl_findings (site_view walk.old.outer) (decl_view decl.now)) walk.old.uses.items walk.new.uses.items result }
+    ensures found { Finds (decl_findings (site_view walk.old.outer) (decl_view decl.now)) walk.old.uses.items
+        walk.new.uses.items result }
     ensures first { OnOk result (firsts.new.items ≡ firsts.old.items ++ length walk.old.uses.items ∷ []) }
     ensures here { OnOk result (walk.new.outer ≡ walk.old.outer) }
 {
@@ -110,8 +116,10 @@ pub(crate) fn take_decls<'a>(
     decls: &'a [Decl],
 ) -> Result<(), NameError>
     requires { IsOuter walk.old.outer }
-    ensures found { Finds (flat_map (decl_findings (site_view walk.old.outer)) (map decl_view decls.now)) walk.old.uses.items walk.new.uses.items result }
-    ensures firsts { OnOk result (firsts.new.items ≡ firsts.old.items ++ begins (length walk.old.uses.items) (uses_in_each (site_view walk.old.outer) (map decl_view decls.now))) }
+    ensures found { Finds (flat_map (decl_findings (site_view walk.old.outer)) (map decl_view decls.now))
+        walk.old.uses.items walk.new.uses.items result }
+    ensures firsts { OnOk result (firsts.new.items ≡ firsts.old.items
+        ++ begins (length walk.old.uses.items) (uses_in_each (site_view walk.old.outer) (map decl_view decls.now))) }
     ensures here { OnOk result (walk.new.outer ≡ walk.old.outer) }
 {
     for decl in decls {

@@ -53,7 +53,8 @@ fn keep_decl(
 ) -> Result<(), NoMemory>
     requires room { length kept.old.items < length firsts.now }
     requires firsts { AreFirst firsts.now kept.old.items }
-    ensures decl { OnOk result (map info_view kept.new.items ≡ map info_view kept.old.items ++ info unit (decl_view decl) ∷ []) }
+    ensures decl { OnOk result (map info_view kept.new.items ≡ map info_view kept.old.items
+        ++ info unit (decl_view decl) ∷ []) }
     ensures firsts { OnOk result (AreFirst firsts.now kept.new.items) }
 {
     let first_use = firsts[kept.len()];
@@ -73,7 +74,8 @@ fn keep_decls(
 ) -> Result<(), NoMemory>
     requires room { length kept.old.items + length decls.items ≤ length firsts.now }
     requires firsts { AreFirst firsts.now kept.old.items }
-    ensures decls { OnOk result (map info_view kept.new.items ≡ map info_view kept.old.items ++ map (info unit) (map decl_view decls.items)) }
+    ensures decls { OnOk result (map info_view kept.new.items ≡ map info_view kept.old.items
+        ++ map (info unit) (map decl_view decls.items)) }
     ensures firsts { OnOk result (AreFirst firsts.now kept.new.items) }
 {
     for decl in decls {
@@ -95,7 +97,8 @@ pub(crate) fn keep_unit(
     requires room { length decls.old.items + length unit.tree.decls.items ≤ length firsts.now }
     requires firsts { AreFirst firsts.now decls.old.items }
     ensures name { OnOk result (names.new.items ≡ names.old.items ++ unit.name ∷ []) }
-    ensures decls { OnOk result (map info_view decls.new.items ≡ map info_view decls.old.items ++ map (info place) (unit_view unit).tree.decls) }
+    ensures decls { OnOk result (map info_view decls.new.items ≡ map info_view decls.old.items
+        ++ map (info place) (unit_view unit).tree.decls) }
     ensures firsts { OnOk result (AreFirst firsts.now decls.new.items) }
 {
     let SourceUnit {

@@ -39,7 +39,8 @@ fn take_part_type<'a>(
 ) -> Result<(), NameError>
     requires names { IsOuter outer.now }
     requires scope { IsScope scope.now }
-    ensures { Finds (typed_findings (site_view outer.now) (part_type (part_view part.now)) (scope_view scope.now)) uses.old.items uses.new.items result }
+    ensures { Finds (typed_findings (site_view outer.now) (part_type (part_view part.now)) (scope_view scope.now))
+        uses.old.items uses.new.items result }
 {
     match part {
         Part::Named { of, .. } | Part::Unnamed { of, .. } => {
@@ -59,7 +60,8 @@ fn take_parts<'a>(
     parts: &'a [Part],
 ) -> Result<(), NameError>
     requires { IsOuter outer.now }
-    ensures { Finds (part_findings (site_view outer.now) [] (map part_view parts.now)) uses.old.items uses.new.items result }
+    ensures { Finds (part_findings (site_view outer.now) [] (map part_view parts.now)) uses.old.items uses.new.items
+        result }
 {
     let scope = Scope::new(alloc);
     let mut seen = Seen::new(alloc);
@@ -101,7 +103,8 @@ fn take_con<'a>(
 ) -> Result<(), NameError>
     requires names { IsOuter outer.now }
     requires seen { IsSeen seen.old }
-    ensures found { Finds (again (seen_view seen.old) (con_view con.now).name ++ bits_findings (site_view outer.now) (con_view con.now).bits) uses.old.items uses.new.items result }
+    ensures found { Finds (again (seen_view seen.old) (con_view con.now).name
+        ++ bits_findings (site_view outer.now) (con_view con.now).bits) uses.old.items uses.new.items result }
     ensures seen { OnOk result (seen_view seen.new ≡ seen_view seen.old ++ (con_view con.now).name ∷ []) }
     ensures sound { OnOk result (IsSeen seen.new) }
 {

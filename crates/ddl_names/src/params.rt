@@ -69,7 +69,8 @@ pub(crate) fn scope_of<'a>(alloc: Global, params: &'a [Param]) -> Result<Scope<'
 // A parameter that the declaration may have, or the refusal of its kind.
 #[tactic(auto, using(ddl_kinds::proofs::Finding::finding))]
 fn allowed(uses: &[Use], kind: Kind, param: &Param) -> Result<(), NameError>
-    ensures { Finds (demand (may_take kind (param_kind (param_view param.now))) (WrongKind (param_name (param_view param.now)).span)) uses.now uses.now result }
+    ensures { Finds (demand (may_take kind (param_kind (param_view param.now)))
+        (WrongKind (param_name (param_view param.now)).span)) uses.now uses.now result }
 {
     if may_take(kind, kind_of(param)) {
         Ok(())
@@ -88,7 +89,8 @@ fn take_param_type<'a>(
 ) -> Result<(), NameError>
     requires names { IsOuter outer.now }
     requires scope { IsScope scope.now }
-    ensures { Finds (typed_findings (site_view outer.now) (param_type (param_view param.now)) (scope_view scope.now)) uses.old.items uses.new.items result }
+    ensures { Finds (typed_findings (site_view outer.now) (param_type (param_view param.now)) (scope_view scope.now))
+        uses.old.items uses.new.items result }
 {
     match param {
         Param::TypedUpper { of, .. } | Param::TypedLower { of, .. } => {
@@ -112,7 +114,11 @@ fn take_param<'a>(
     requires names { IsOuter outer.now }
     requires scope { IsScope scope.now }
     requires seen { IsSeen seen.old }
-    ensures found { let p = param_view param.now in Finds (again (seen_view seen.old) (param_name p) ++ demand (may_take kind (param_kind p)) (WrongKind (param_name p).span) ++ typed_findings (site_view outer.now) (param_type p) (scope_view scope.now)) uses.old.items uses.new.items result }
+    ensures found { let p = param_view param.now
+        in Finds (again (seen_view seen.old) (param_name p)
+        ++ demand (may_take kind (param_kind p)) (WrongKind (param_name p).span)
+        ++ typed_findings (site_view outer.now) (param_type p) (scope_view scope.now)) uses.old.items uses.new.items
+        result }
     ensures seen { OnOk result (seen_view seen.new ≡ seen_view seen.old ++ param_name (param_view param.now) ∷ []) }
     ensures sound { OnOk result (IsSeen seen.new) }
 {
@@ -135,7 +141,8 @@ pub(crate) fn take_params<'a>(
 ) -> Result<(), NameError>
     requires names { IsOuter outer.now }
     requires scope { IsScope scope.now }
-    ensures { Finds (param_findings (site_view outer.now) kind [] (scope_view scope.now) (map param_view params.now)) uses.old.items uses.new.items result }
+    ensures { Finds (param_findings (site_view outer.now) kind [] (scope_view scope.now) (map param_view params.now))
+        uses.old.items uses.new.items result }
 {
     let mut seen = Seen::new(alloc);
     for param in params {

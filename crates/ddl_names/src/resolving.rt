@@ -34,8 +34,14 @@ fn take_module<'a>(
     decls: &'a [Decl],
 ) -> Result<(), NameError>
     requires { IsOuter walk.old.outer }
-    ensures found { Finds (flat_map (decl_findings (record { units = (site_view walk.old.outer).units; here = place })) (map decl_view decls.now)) walk.old.uses.items walk.new.uses.items result }
-    ensures firsts { OnOk result (firsts.new.items ≡ firsts.old.items ++ begins (length walk.old.uses.items) (uses_in_each (record { units = (site_view walk.old.outer).units; here = place }) (map decl_view decls.now))) }
+    ensures found { Finds (flat_map (decl_findings (record { units = (site_view walk.old.outer).units; here = place }))
+        (map decl_view decls.now)) walk.old.uses.items walk.new.uses.items result }
+    ensures firsts { OnOk result (firsts.new.items ≡ firsts.old.items
+        ++ begins (length walk.old.uses.items) (uses_in_each (record {
+          units = (site_view walk.old.outer).units;
+          here =
+              place;
+        }) (map decl_view decls.now))) }
     ensures kept { OnOk result (walk.new.outer ≡ record walk.old.outer { here = place }) }
 {
     walk.outer.here = number_of(place)?;
@@ -52,7 +58,8 @@ fn take_modules<'a>(
 ) -> Result<Uses, NameError>
     requires { AreNames (loaded units.now) names.items }
     ensures none_refused { OnOk result (first_refusal (findings_from (loaded units.now) 0 (loaded units.now)) ≡ None) }
-    ensures taken { IfOk result (λ uses. uses.all.items ≡ all_uses (findings_from (loaded units.now) 0 (loaded units.now))) }
+    ensures taken { IfOk result (λ uses. uses.all.items
+        ≡ all_uses (findings_from (loaded units.now) 0 (loaded units.now))) }
     ensures firsts { IfOk result (λ uses. uses.firsts.items ≡ begins 0 (uses_of_each (loaded units.now))) }
     ensures refused { IfErr result (IsFirst (findings_from (loaded units.now) 0 (loaded units.now))) }
 {

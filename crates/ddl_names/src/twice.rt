@@ -43,7 +43,8 @@ pub(crate) fn names_differ(alloc: Global, units: &[SourceUnit]) -> Result<(), Na
 // The name of the declaration at this place, over all these modules.
 #[tactic(auto, using(crate::proofs::Refusing::refusing))]
 fn decl_at(units: &[SourceUnit], place: usize) -> Option<Span>
-    ensures { result ≡ option_map (λ d. (decl_name d).span) (slice_get (flat_map (λ u. u.tree.decls) (loaded units.now)) place) }
+    ensures { result ≡ option_map (λ d. (decl_name d).span)
+        (slice_get (flat_map (λ u. u.tree.decls) (loaded units.now)) place) }
 {
     let mut left = place;
     for unit in units {

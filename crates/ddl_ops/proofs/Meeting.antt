@@ -33,7 +33,8 @@ meets_same stuck = is_stuck
 meets_same (counts o) = is_counted (meets_same o)
 
 pub then_value_meets : {h : Half} {A A' B B' : Type 0} {R : A → A' → Type 0} {T : B → B' → Type 0} {o : Given A} {o' : Given A'}
-    (k : A → Given B) (k' : A' → Given B') → Meets h R o o' → ((a : A) (a' : A') → R a a' → Meets h T (k a) (k' a')) → Meets h T (then_value o k) (then_value o' k')
+    (k : A → Given B) (k' : A' → Given B') → Meets h R o o' → ((a : A) (a' : A') → R a a' → Meets h T (k a) (k' a'))
+    → Meets h T (then_value o k) (then_value o' k')
 then_value_meets k k' (is_left d) e = is_left d
 then_value_meets k k' (is_right d) e = is_right d
 then_value_meets k k' (is_given {a = a} {b = b} r) e = e a b r

@@ -44,10 +44,13 @@ take-take_drop at xs ys zs p q =
 pub take-put_mid_part : (a k n : ℕ) (xs ys : List ℕ) → a ≤ length xs → n ≤ length ys → take (a + n) (put_mid a k xs ys) ≡ take a xs ++ take n ys
 take-put_mid_part a k n xs ys h g =
     let e : length (take a xs) ≡ a = length-take-le a xs h in
-    let whole : take (length (take a xs) + n) (take a xs ++ (ys ++ post_of a k xs)) ≡ take a xs ++ take n (ys ++ post_of a k xs) = take-append-add (take a xs) (ys ++ post_of a k xs) n in
-    ap (λ (m : ℕ). take (m + n) (take a xs ++ (ys ++ post_of a k xs))) (sym e) ∙ (whole ∙ ap (λ (l : List ℕ). take a xs ++ l) (take-append-le n ys (post_of a k xs) g))
+    let whole : take (length (take a xs) + n) (take a xs ++ (ys ++ post_of a k xs)) ≡ take a xs ++ take n (ys ++ post_of a k xs) =
+    take-append-add (take a xs) (ys ++ post_of a k xs) n in
+    ap (λ (m : ℕ). take (m + n) (take a xs ++ (ys ++ post_of a k xs))) (sym e)
+    ∙ (whole ∙ ap (λ (l : List ℕ). take a xs ++ l) (take-append-le n ys (post_of a k xs) g))
 
-pub HasAt-append : (held : Option Contents) (name : List ℕ) (at : ℕ) (xs ys : List ℕ) → HasAt held name at xs → HasAt held name (at + length xs) ys → HasAt held name at (xs ++ ys)
+pub HasAt-append : (held : Option Contents) (name : List ℕ) (at : ℕ) (xs ys : List ℕ) → HasAt held name at xs → HasAt held name (at + length xs) ys
+    → HasAt held name at (xs ++ ys)
 HasAt-append None name at xs ys p q = tt
 HasAt-append (Some files) name at xs ys p q = take-take_drop at xs ys (unwrap_or (files name) []) p q
 
@@ -55,7 +58,8 @@ pub IsFile-later : (a b : FilesState) (name bytes : List ℕ) → Later a b → 
 IsFile-later a b name bytes later file = (later.told name (length bytes) file.0, rw later.held file.1)
 
 -- A file of which the first bytes are known: it has some bytes that begin with them.
-pub file_begins : (files : FilesState) (name start : List ℕ) (n : ℕ) → files.told name ≡ Some n → HasLength files.held name n → HasAt files.held name 0 start → length start ≤ n
+pub file_begins : (files : FilesState) (name start : List ℕ) (n : ℕ) → files.told name ≡ Some n → HasLength files.held name n → HasAt files.held name 0 start
+    → length start ≤ n
     → (bytes : List ℕ) × IsFile files name bytes × (start ≡ take (length start) bytes)
 file_begins files name start n told has_length has_start within = by_held files.held has_length has_start where
   padded : List ℕ
@@ -63,7 +67,11 @@ file_begins files name start n told has_length has_start within = by_held files.
 
   by_held : (held : Option Contents) → HasLength held name n → HasAt held name 0 start
       → (bytes : List ℕ) × ((files.told name ≡ Some (length bytes)) × Holds held name bytes) × (start ≡ take (length start) bytes)
-  by_held None l s = (padded, (told ∙ ap Some (simp (length-append, length-replicate) (omega arith)), tt), sym (take-append_seam start (replicate (n - length start) 0)))
+  by_held None l s = (
+    padded,
+    (told ∙ ap Some (simp (length-append, length-replicate) (omega arith)), tt),
+    sym (take-append_seam start (replicate (n - length start) 0)),
+  )
   by_held (Some contents) l s = by_file (contents name) refl l s where
     by_file : (o : Option (List ℕ)) → contents name ≡ o → option_map length o ≡ Some n → start ≡ take (length start) (drop 0 (unwrap_or o []))
         → (bytes : List ℕ) × ((files.told name ≡ Some (length bytes)) × (contents name ≡ Some bytes)) × (start ≡ take (length start) bytes)
@@ -71,7 +79,8 @@ file_begins files name start n told has_length has_start within = by_held files.
     by_file (Some bytes) e l s = (bytes, (told ∙ sym l, e), s)
 
 -- A file of which all bytes are known has these.
-pub file_whole : (files : FilesState) (name bytes : List ℕ) → files.told name ≡ Some (length bytes) → HasLength files.held name (length bytes) → HasAt files.held name 0 bytes → IsFile files name bytes
+pub file_whole : (files : FilesState) (name bytes : List ℕ) → files.told name ≡ Some (length bytes) → HasLength files.held name (length bytes)
+    → HasAt files.held name 0 bytes → IsFile files name bytes
 file_whole files name bytes told has_length has_bytes =
     let found = file_begins files name bytes (length bytes) told has_length has_bytes (omega arith) in
     let content : List ℕ = found.0 in
@@ -80,7 +89,8 @@ file_whole files name bytes told has_length has_bytes =
     rw same found.1
 
 -- an answer since a later moment is one since an earlier one
-pub IsPiece-earlier : (a b c : FilesState) (name : List ℕ) (at : ℕ) (into : List ℕ) (piece : Piece) → Later a b → IsPiece b c name at into piece → IsPiece a c name at into piece
+pub IsPiece-earlier : (a b c : FilesState) (name : List ℕ) (at : ℕ) (into : List ℕ) (piece : Piece) → Later a b → IsPiece b c name at into piece
+    → IsPiece a c name at into piece
 IsPiece-earlier a b c name at into (piece_of.Got n) later h = h
 IsPiece-earlier a b c name at into piece_of.End later h = h
 IsPiece-earlier a b c name at into piece_of.Absent later h = IsAbsent-earlier a b c name later h

@@ -32,7 +32,8 @@ Writes-trans a b c xs ys p q = record {
 }
 
 -- a further part of a piece
-pub Writes-more : (a b c : SinkState) (n m : ℕ) (piece : List ℕ) → Writes a b (take n piece) → Writes b c (take m (drop n piece)) → Writes a c (take (n + m) piece)
+pub Writes-more : (a b c : SinkState) (n m : ℕ) (piece : List ℕ) → Writes a b (take n piece) → Writes b c (take m (drop n piece))
+    → Writes a c (take (n + m) piece)
 Writes-more a b c n m piece p q = rw take-add (Writes-trans a b c _ _ p q)
 
 -- a write failed since a later moment, and so since an earlier one
@@ -40,7 +41,8 @@ IsRefused-earlier : (a b c : SinkState) (xs : List ℕ) → Writes a b xs → Is
 IsRefused-earlier a b c xs p r = (let f = p.faults in let g = r.0 in omega arith, r.1)
 
 -- a write failed once some first bytes of a piece were written, and not all
-pub Writes-failed : (a b c : SinkState) (n : ℕ) (piece : List ℕ) → n < length piece → Writes a b (take n piece) → Writes b c [] → IsRefused b c → WritesPart a c piece
+pub Writes-failed : (a b c : SinkState) (n : ℕ) (piece : List ℕ) → n < length piece → Writes a b (take n piece) → Writes b c [] → IsRefused b c
+    → WritesPart a c piece
 Writes-failed a b c n piece within p q r =
     (n, within, rw (append-nil (take n piece)) at (Writes-trans a b c (take n piece) [] p q), IsRefused-earlier a b c (take n piece) p r)
 
@@ -49,16 +51,23 @@ pub WritesPart-more : (a b c : SinkState) (done x rest whole : List ℕ) → who
 WritesPart-more a b c done x rest whole e before part =
     let within : part.0 < length x = part.1 in
     let taken : take (length done + part.0) whole ≡ done ++ take part.0 x =
-    ap (take (length done + part.0)) e ∙ (take-append-add done (x ++ rest) part.0 ∙ ap (λ (l : List ℕ). done ++ l) (take-append-le part.0 x rest (omega arith))) in
-    (length done + part.0, rw e (simp length-append (omega arith)), rw taken (Writes-trans a b c done (take part.0 x) before part.2), IsRefused-earlier a b c done before part.3)
+    ap (take (length done + part.0)) e ∙ (take-append-add done (x ++ rest) part.0 ∙ ap (λ (l : List ℕ). done ++ l) (take-append-le part.0 x rest (omega arith)))
+    in (
+      length done + part.0,
+      rw e (simp length-append (omega arith)),
+      rw taken (Writes-trans a b c done (take part.0 x) before part.2),
+      IsRefused-earlier a b c done before part.3,
+    )
 
 -- the lines up to one, that line, and those after it
-pub concat_at : (lines : List (List ℕ)) (i : ℕ) (x : List ℕ) → i < length lines → x ≡ get_or lines i x → concat lines ≡ concat (take i lines) ++ (x ++ concat (drop (i + 1) lines))
+pub concat_at : (lines : List (List ℕ)) (i : ℕ) (x : List ℕ) → i < length lines → x ≡ get_or lines i x
+    → concat lines ≡ concat (take i lines) ++ (x ++ concat (drop (i + 1) lines))
 concat_at lines i x within is =
     ap concat (sym (take-append-drop i lines)) ∙ (concat-append (take i lines) (drop i lines)
     ∙ ap (λ (l : List (List ℕ)). concat (take i lines) ++ concat l) (drop_more lines i x within ∙ ap (λ (y : List ℕ). y ∷ drop (i + 1) lines) (sym is)))
 
-pub concat_more : (lines : List (List ℕ)) (i : ℕ) (x : List ℕ) → i < length lines → x ≡ get_or lines i x → concat (take (i + 1) lines) ≡ concat (take i lines) ++ x
+pub concat_more : (lines : List (List ℕ)) (i : ℕ) (x : List ℕ) → i < length lines → x ≡ get_or lines i x
+    → concat (take (i + 1) lines) ≡ concat (take i lines) ++ x
 concat_more lines i x within is =
     ap concat (take_more lines i x within) ∙ (concat-append (take i lines) (get_or lines i x ∷ [])
     ∙ ap (λ (l : List ℕ). concat (take i lines) ++ l) (append-nil (get_or lines i x) ∙ sym is))

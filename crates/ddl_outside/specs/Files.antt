@@ -1,5 +1,6 @@
 -- What contracts see of a source of files, and what its calls do.
-use Rattle.std.specs.Prelude.{◌≡◌, ℕ, ◌+◌, ◌≤◌, List, [], length, take, drop, min, max, IfSome, IsSome, Some, None, Option, option_map, unwrap_or, Bool, true, false}
+use Rattle.std.specs.Prelude.{◌≡◌, ℕ, ◌+◌, ◌≤◌, List, [], length, take, drop, min, max, IfSome, IsSome, Some, None, Option, option_map, unwrap_or, Bool, true}
+use Rattle.std.specs.Prelude.{false}
 use Rattle.std.specs.Str.{bytes_eq}
 use Rattle.ddl_outside.specs.Counts.{Rose}
 use Rattle.ddl_outside.specs.declared.files.Length.{Length}

@@ -1,5 +1,6 @@
 -- What contracts see of the files in memory.
-use Rattle.std.specs.Prelude.{ℕ, ◌+◌, List, [], ◌∷◌, length, Option, Some, None, option_map, option_and_then, Bool, true, false, if◌then◌else◌, min, max, replicate, ◌==◌}
+use Rattle.std.specs.Prelude.{ℕ, ◌+◌, List, [], ◌∷◌, length, Option, Some, None, option_map, option_and_then, Bool, true, false, if◌then◌else◌, min, max}
+use Rattle.std.specs.Prelude.{replicate, ◌==◌}
 use Rattle.std.specs.List.{list_any}
 use Rattle.ddl_outside.specs.Counts.{one_more}
 use Rattle.ddl_outside.specs.Files.{FilesState, Contents}
@@ -68,7 +69,15 @@ some_failing (call ∷ calls) = true
 
 abbrev pub files_state : MemState → FilesState
 files_state m =
-    record { held = Some (held_in m.files); told = told_in m.files; reach = reach_in m.files; may_fail = some_failing m.failing; faults = m.faults; misses = m.misses }
+    record {
+      held = Some (held_in m.files);
+      told = told_in m.files;
+      reach = reach_in m.files;
+      may_fail = some_failing m.failing;
+      faults = m.faults;
+      misses =
+          m.misses;
+    }
 
 -- the call fails, by its number
 abbrev pub fails : MemState → Bool

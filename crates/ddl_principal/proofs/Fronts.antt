@@ -72,7 +72,8 @@ pub one : {A C : Type 0} {n : ℕ} {φ : Front} {it : Sub → A} {a : A} (rule :
 one rule x = record { given = x.given; opens = x.opens; same = λ rest. ap rule (x.same rest) }
 
 -- a part, and one that goes on from it
-pub then_ : {A B C : Type 0} {n k : ℕ} {φ : Front} {it : Sub → A} {a : A} {b : B} (x : Becomes n φ it a) (next : A → Sub → B) (rule : A → B → C) → Becomes k (behind φ x.given) (next a) b
+pub then_ : {A B C : Type 0} {n k : ℕ} {φ : Front} {it : Sub → A} {a : A} {b : B} (x : Becomes n φ it a) (next : A → Sub → B) (rule : A → B → C)
+    → Becomes k (behind φ x.given) (next a) b
     → Becomes k φ (λ f. rule (it f) (next (it f) f)) (rule a b)
 then_ {φ = φ} {a = a} x next rule y = record {
   given = λ rest. x.given (y.given rest);

@@ -46,8 +46,10 @@ rest_types_on (u ∷ us) f = refl
 
 -- ---- a typed form whose fields are equal to others
 
-pub same_typed : (s : Span) {g g2 : t.Form} {u u2 : Ty} {as_ bs : List Ask} {z z2 : State} → g ≡ g2 → u ≡ u2 → as_ ≡ bs → z ≡ z2 → typed g u s as_ z ≡ typed g2 u2 s bs z2
-same_typed s {g} {g2} {u} {u2} {as_} {bs} {z} {z2} p q r e = ap (λ x. typed x u s as_ z) p ∙ ap (λ x. typed g2 x s as_ z) q ∙ ap (λ x. typed g2 u2 s x z) r ∙ ap (λ x. typed g2 u2 s bs x) e
+pub same_typed : (s : Span) {g g2 : t.Form} {u u2 : Ty} {as_ bs : List Ask} {z z2 : State} → g ≡ g2 → u ≡ u2 → as_ ≡ bs → z ≡ z2
+    → typed g u s as_ z ≡ typed g2 u2 s bs z2
+same_typed s {g} {g2} {u} {u2} {as_} {bs} {z} {z2} p q r e = ap (λ x. typed x u s as_ z) p ∙ ap (λ x. typed g2 x s as_ z) q ∙ ap (λ x. typed g2 u2 s x z) r
+    ∙ ap (λ x. typed g2 u2 s bs x) e
 
 pub same_asks : (m : Typed) {bs : List Ask} → m.asks ≡ bs → m ≡ typed m.form m.of m.at bs m.state
 same_asks m e = ap (λ x. typed m.form m.of m.at x m.state) e
@@ -56,7 +58,8 @@ same_asks m e = ap (λ x. typed m.form m.of m.at x m.state) e
 
 pub with_place_on : (s : Span) (tagged : Bool) (names : List (List ℕ)) (us : List Ty) (z : State) (f : Sub)
     → state_on (with_place s tagged names us z) f ≡ with_place s tagged names (types_on us f) (state_on z f)
-with_place_on s tagged names us z f = ap (λ ps. let y : State = record z { places = ps } in y) (places_append z.places (record { span = s; vars = 0; tagged = tagged; names = names; types = us } ∷ []) f)
+with_place_on s tagged names us z f = ap (λ ps. let y : State =
+    record z { places = ps } in y) (places_append z.places (record { span = s; vars = 0; tagged = tagged; names = names; types = us } ∷ []) f)
 
 pub place_type_on : (z : State) (f : Sub) → on (place_type z) f ≡ place_type (state_on z f)
 place_type_on z f = ap (λ n. con (place n) none) (sym (places_length z.places f))
@@ -65,8 +68,13 @@ place_type_on z f = ap (λ n. con (place n) none) (sym (places_length z.places f
 
 pub with_value_on : (s : Span) (u : Ty) (env : Env) (f : Sub) → env_on (with_value s u env) f ≡ with_value s (on u f) (env_on env f)
 with_value_on s u env f =
-    ap (λ ls. let y : Env = record { locals = ls; known = all_known_on env.known f } in y) (locals_append env.locals (record { at = s; kind = k.Value; number = length env.locals; of = u } ∷ []) f)
-    ∙ ap (λ n. let y : Env = record { locals = locals_on env.locals f ++ record { at = s; kind = k.Value; number = n; of = on u f } ∷ []; known = all_known_on env.known f } in y) (sym (locals_length env.locals f))
+    ap (λ ls. let y : Env = record { locals = ls; known = all_known_on env.known f }
+    in y) (locals_append env.locals (record { at = s; kind = k.Value; number = length env.locals; of = u } ∷ []) f)
+    ∙ ap (λ n. let y : Env = record {
+      locals = locals_on env.locals f ++ record { at = s; kind = k.Value; number = n; of = on u f } ∷ [];
+      known =
+          all_known_on env.known f;
+    } in y) (sym (locals_length env.locals f))
 
 abbrev pub option_local : Option Local → Sub → Option Local
 option_local None f = None
@@ -76,6 +84,7 @@ pub local_found : (ls : List Local) (s : Span) (f : Sub) → local_at s (locals_
 local_found [] s f = refl
 local_found (l ∷ ls) s f = by_test (same_span l.at s) (local_found ls s f)
   where
-    by_test : (c : Bool) → local_at s (locals_on ls f) ≡ option_local (local_at s ls) f → (if c then Some (local_on l f) else local_at s (locals_on ls f)) ≡ option_local (if c then Some l else local_at s ls) f
+    by_test : (c : Bool) → local_at s (locals_on ls f) ≡ option_local (local_at s ls) f
+        → (if c then Some (local_on l f) else local_at s (locals_on ls f)) ≡ option_local (if c then Some l else local_at s ls) f
     by_test true ih = refl
     by_test false ih = ih

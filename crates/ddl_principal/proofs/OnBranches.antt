@@ -20,7 +20,8 @@ use Rattle.ddl_rules.specs.Patterns.{bound_number, content_number, turn_binder, 
 use Rattle.ddl_typing.specs.Retyped.{retyped, retyped_cases}
 use Rattle.ddl_typing.specs.Replaced.{tree_on, asks_on, state_on, typed_on, cases_on, env_on, locals_on}
 use Rattle.ddl_typing.specs.Typed.{Typed, TypedCases, typed, tree_of}
-use Rattle.ddl_typing.specs.Branches.{an_if, pattern_form, pattern_asks, pattern_env, first_case, one_case, a_case, guard_behind, guard_before, a_guard, a_fold, a_map}
+use Rattle.ddl_typing.specs.Branches.{an_if, pattern_form, pattern_asks, pattern_env, first_case, one_case, a_case, guard_behind, guard_before, a_guard, a_fold}
+use Rattle.ddl_typing.specs.Branches.{a_map}
 use Rattle.ddl_principal.proofs.Lists.{asks_append, asks_append3, same_typed, same_asks, locals_length, with_value_on}
 
 pub if_on : (s : Span) (c l r : Typed) (f : Sub) → typed_on (an_if s c l r) f ≡ an_if s (typed_on c f) (typed_on l f) (typed_on r f)
@@ -77,18 +78,23 @@ pattern_env_on (p.Tag x b s) c env f = content_on b c env f
 -- ---- `case`
 
 same_cases : {cs cs2 : t.Cases} (u : Ty) {as_ bs : List Ask} (z : State) → cs ≡ cs2 → as_ ≡ bs
-    → (let x : TypedCases = record { cases = cs; of = u; asks = as_; state = z } in x) ≡ (let x : TypedCases = record { cases = cs2; of = u; asks = bs; state = z } in x)
-same_cases {cs2 = cs2} u {as_} z p q = ap (λ y. let x : TypedCases = record { cases = y; of = u; asks = as_; state = z } in x) p ∙ ap (λ y. let x : TypedCases = record { cases = cs2; of = u; asks = y; state = z } in x) q
+    → (let x : TypedCases = record { cases = cs; of = u; asks = as_; state = z } in x) ≡ (let x : TypedCases =
+    record { cases = cs2; of = u; asks = bs; state = z } in x)
+same_cases {cs2 = cs2} u {as_} z p q = ap (λ y. let x : TypedCases = record { cases = y; of = u; asks = as_; state = z } in x) p
+    ∙ ap (λ y. let x : TypedCases = record { cases = cs2; of = u; asks = y; state = z } in x) q
 
 pub first_case_on : (q : Pat) (u : Ty) (env : Env) (c : Ty) (l : Typed) (r : TypedCases) (f : Sub)
     → cases_on (first_case q u env c l r) f ≡ first_case q (on u f) (env_on env f) (on c f) (typed_on l f) (cases_on r f)
-first_case_on q u env c l r f = same_cases (on l.of f) (state_on r.state f) (ap (λ x. t.when x (tree_on (tree_of l) f) (retyped_cases r.cases (λ v. on v f))) (pattern_form_on q env f))
+first_case_on q u env c l r f = same_cases (on l.of f) (state_on r.state f)
+    (ap (λ x. t.when x (tree_on (tree_of l) f) (retyped_cases r.cases (λ v. on v f))) (pattern_form_on q env f))
     (asks_append3 (pattern_asks q u c) l.asks r.asks f ∙ ap (λ xs. xs ++ asks_on l.asks f ++ asks_on r.asks f) (pattern_asks_on q u c f))
 
 pub one_case_on : (q : Pat) (u v : Ty) (env : Env) (c : Ty) (l : Typed) (r : TypedCases) (f : Sub)
     → cases_on (one_case q u v env c l r) f ≡ one_case q (on u f) (on v f) (env_on env f) (on c f) (typed_on l f) (cases_on r f)
-one_case_on q u v env c l r f = same_cases (on v f) (state_on r.state f) (ap (λ x. t.when x (tree_on (tree_of l) f) (retyped_cases r.cases (λ w. on w f))) (pattern_form_on q env f))
-    (asks_append3 (pattern_asks q u c) (wants v l.of l.at ∷ l.asks) r.asks f ∙ ap (λ xs. xs ++ asks_on (wants v l.of l.at ∷ l.asks) f ++ asks_on r.asks f) (pattern_asks_on q u c f))
+one_case_on q u v env c l r f = same_cases (on v f) (state_on r.state f)
+    (ap (λ x. t.when x (tree_on (tree_of l) f) (retyped_cases r.cases (λ w. on w f))) (pattern_form_on q env f))
+    (asks_append3 (pattern_asks q u c) (wants v l.of l.at ∷ l.asks) r.asks f
+    ∙ ap (λ xs. xs ++ asks_on (wants v l.of l.at ∷ l.asks) f ++ asks_on r.asks f) (pattern_asks_on q u c f))
 
 pub case_on : (s : Span) (l : Typed) (r : TypedCases) (f : Sub) → typed_on (a_case s l r) f ≡ a_case s (typed_on l f) (cases_on r f)
 case_on s l r f = same_asks (typed_on (a_case s l r) f) (asks_append l.asks r.asks f)
@@ -108,7 +114,8 @@ pub turn_binder_on : (x : Option Name) (env : Env) (f : Sub) → turn_binder x e
 turn_binder_on None env f = ap (λ n. let y : turn.Binder = record { key = None; element = n } in y) (sym (locals_length env.locals f))
 turn_binder_on (Some x) env f = ap (λ n. let y : turn.Binder = record { key = Some n; element = n + 1 } in y) (sym (locals_length env.locals f))
 
-pub with_names_on : (s : Span) (x : Option Name) (k v : Ty) (env : Env) (f : Sub) → env_on (with_names s x k v env) f ≡ with_names s x (on k f) (on v f) (env_on env f)
+pub with_names_on : (s : Span) (x : Option Name) (k v : Ty) (env : Env) (f : Sub)
+    → env_on (with_names s x k v env) f ≡ with_names s x (on k f) (on v f) (env_on env f)
 with_names_on s None k v env f = with_value_on s v env f
 with_names_on s (Some x) k v env f = with_value_on x.span v (with_value s k env) f ∙ ap (with_value x.span (on v f)) (with_value_on s k env f)
 
@@ -116,7 +123,8 @@ pub fold_on : (ns : Names) (env inner : Env) (s : Span) (i l : Typed) (k v : Ty)
     → typed_on (a_fold ns env inner s i l k v b) f ≡ a_fold ns (env_on env f) (env_on inner f) s (typed_on i f) (typed_on l f) (on k f) (on v f) (typed_on b f)
 fold_on ns env inner s i l k v b f = same_typed s
     (ap (λ n. t.for_ n (tree_on (tree_of i) f) (turn_binder ns.second inner) (tree_on (tree_of l) f) (tree_on (tree_of b) f)) (sym (locals_length env.locals f))
-    ∙ ap (λ x. t.for_ (length (locals_on env.locals f)) (tree_on (tree_of i) f) x (tree_on (tree_of l) f) (tree_on (tree_of b) f)) (turn_binder_on ns.second inner f))
+    ∙ ap (λ x. t.for_ (length (locals_on env.locals f)) (tree_on (tree_of i) f) x (tree_on (tree_of l) f) (tree_on (tree_of b) f))
+    (turn_binder_on ns.second inner f))
     refl (asks_append3 (asks_for (loops l.of k v) s ∷ i.asks) l.asks (wants i.of b.of b.at ∷ b.asks) f) refl
 
 pub map_on : (ns : Names) (env : Env) (s : Span) (l : Typed) (k v r : Ty) (b : Typed) (f : Sub)

@@ -1,5 +1,6 @@
 -- The rules of names, arguments, classes and written types commute with replacing types.
-use Rattle.std.proofs.Common.{◌≡◌, ℕ, zero, suc, ◌+◌, ◌<◌, ◌≤◌, List, [], ◌∷◌, ◌++◌, map, length, get_or, Option, Some, None, Bool, true, false, refl, ap, sym, ◌∙◌, arith, subst}
+use Rattle.std.proofs.Common.{◌≡◌, ℕ, zero, suc, ◌+◌, ◌<◌, ◌≤◌, List, [], ◌∷◌, ◌++◌, map, length, get_or, Option, Some, None, Bool, true, false, refl, ap, sym}
+use Rattle.std.proofs.Common.{◌∙◌, arith, subst}
 use Rattle.ddl_base.specs.declared.span.Span.{Span}
 use Rattle.ddl_kinds.specs.declared.builtin.BuiltIn.{BuiltIn}
 use Rattle.ddl_kinds.specs.declared.builtin.BuiltIn.TheVariants as builtin
@@ -21,10 +22,12 @@ use Rattle.ddl_rules.specs.Asks.{Ask, Env, Known, Local, State, asks_for, wants,
 use Rattle.ddl_rules.specs.BuiltInTypes.{builtin_form}
 use Rattle.ddl_rules.specs.ClassForms.{MadeClass, byte_asks, class_made, named_class, number_of}
 use Rattle.ddl_typing.specs.Retyped.{retyped, retyped_form, retyped_args, retyped_all}
-use Rattle.ddl_typing.specs.Replaced.{types_on, tree_on, trees_on, asks_on, ask_on, state_on, local_on, locals_on, conditions_on, known_by, known_on, all_known_on, env_on, typed_on, args_on, class_on}
+use Rattle.ddl_typing.specs.Replaced.{types_on, tree_on, trees_on, asks_on, ask_on, state_on, local_on, locals_on, conditions_on, known_by, known_on}
+use Rattle.ddl_typing.specs.Replaced.{all_known_on, env_on, typed_on, args_on, class_on}
 use Rattle.ddl_typing.specs.Typed.{Typed, TypedArgs, typed, tree_of}
 use Rattle.ddl_typing.specs.Closed.{EachIsBelow, EachConditionBelow, ClosesBy, Closes, AreClosed}
-use Rattle.ddl_typing.specs.Names.{OneClass, at_types, condition_at, builtin_known, local_known, target, wanted_at, next_kind, before_argument, class_argument, an_argument, behind_argument, types_first, calling, local_form, named_form, noted, a_named, of_bound, bound_vars}
+use Rattle.ddl_typing.specs.Names.{OneClass, at_types, condition_at, builtin_known, local_known, target, wanted_at, next_kind, before_argument, class_argument}
+use Rattle.ddl_typing.specs.Names.{an_argument, behind_argument, types_first, calling, local_form, named_form, noted, a_named, of_bound, bound_vars}
 use Rattle.ddl_principal.proofs.Lists.{asks_append, same_typed, option_local, local_found}
 
 -- ---- schemes at types
@@ -39,11 +42,13 @@ mutual
   instance_on (var v) us f n b h = get_on us f v (var v) (var v) (omega (arith, b, h))
   instance_on (con c ts) us f n b h = ap (con c) (instances_on ts us f n b h)
 
-  instances_on : (ts : Tys) (us : List Ty) (f : Sub) (n : ℕ) → BelowAll ts n → n ≤ length us → on_all (on_all ts (arguments us)) f ≡ on_all ts (arguments (types_on us f))
+  instances_on : (ts : Tys) (us : List Ty) (f : Sub) (n : ℕ) → BelowAll ts n → n ≤ length us
+      → on_all (on_all ts (arguments us)) f ≡ on_all ts (arguments (types_on us f))
   instances_on none us f n b h = refl
   instances_on (more u ts) us f n b h = let x = instance_on u us f n b.0 h in let z = instances_on ts us f n b.1 h in cc
 
-condition_on : (c : Condition) (us : List Ty) (f : Sub) (n : ℕ) → ConditionBelow n c → n ≤ length us → on_condition f (on_condition (arguments us) c) ≡ on_condition (arguments (types_on us f)) c
+condition_on : (c : Condition) (us : List Ty) (f : Sub) (n : ℕ) → ConditionBelow n c → n ≤ length us
+    → on_condition f (on_condition (arguments us) c) ≡ on_condition (arguments (types_on us f)) c
 condition_on (num x) us f n b h = ap num (instance_on x us f n b h)
 condition_on (word x) us f n b h = ap word (instance_on x us f n b h)
 condition_on (lit i x) us f n b h = ap (lit i) (instance_on x us f n b h)
@@ -57,7 +62,8 @@ condition_on (tag x i z) us f n b h = let a = instance_on x us f n b.0 h in let 
 condition_on (loops x z w) us f n b h = let a = instance_on x us f n b.0 h in let c = instance_on z us f n b.1 h in let d = instance_on w us f n b.2 h in cc
 
 -- what a use of a scheme of so many variables is, asks and wants
-of_on : (n : ℕ) (it : Known) (us : List Ty) (f : Sub) → ClosesBy n it → length us ≡ n → on (at_types n us it.of) f ≡ at_types n (types_on us f) (known_by n it f).of
+of_on : (n : ℕ) (it : Known) (us : List Ty) (f : Sub) → ClosesBy n it → length us ≡ n
+    → on (at_types n us it.of) f ≡ at_types n (types_on us f) (known_by n it f).of
 of_on zero it us f c h = refl
 of_on (suc n) it us f c h = instance_on it.of us f (suc n) c.1 (omega (arith, h))
 
@@ -65,13 +71,16 @@ of_on (suc n) it us f c h = instance_on it.of us f (suc n) c.1 (omega (arith, h)
 abbrev use_asks : ℕ → List Condition → List Ty → Span → List Ask → List Ask
 use_asks n cs us s as_ = map (λ c. asks_for (condition_at n us c) s) cs ++ as_
 
-asks_zero : (cs : List Condition) (us vs : List Ty) (s : Span) (as_ : List Ask) (f : Sub) → asks_on (use_asks 0 cs us s as_) f ≡ use_asks 0 (conditions_on cs f) vs s (asks_on as_ f)
+asks_zero : (cs : List Condition) (us vs : List Ty) (s : Span) (as_ : List Ask) (f : Sub)
+    → asks_on (use_asks 0 cs us s as_) f ≡ use_asks 0 (conditions_on cs f) vs s (asks_on as_ f)
 asks_zero [] us vs s as_ f = refl
 asks_zero (c ∷ cs) us vs s as_ f = ap (λ x. asks_for (on_condition f c) s ∷ x) (asks_zero cs us vs s as_ f)
 
-asks_suc : (cs : List Condition) (us : List Ty) (s : Span) (as_ : List Ask) (f : Sub) (n : ℕ) → EachConditionBelow cs (suc n) → suc n ≤ length us → asks_on (use_asks (suc n) cs us s as_) f ≡ use_asks (suc n) cs (types_on us f) s (asks_on as_ f)
+asks_suc : (cs : List Condition) (us : List Ty) (s : Span) (as_ : List Ask) (f : Sub) (n : ℕ) → EachConditionBelow cs (suc n) → suc n ≤ length us
+    → asks_on (use_asks (suc n) cs us s as_) f ≡ use_asks (suc n) cs (types_on us f) s (asks_on as_ f)
 asks_suc [] us s as_ f n b h = refl
-asks_suc (c ∷ cs) us s as_ f n b h = ap (λ d. asks_for d s ∷ asks_on (use_asks (suc n) cs us s as_) f) (condition_on c us f (suc n) b.0 h) ∙ ap (λ x. asks_for (condition_at (suc n) (types_on us f) c) s ∷ x) (asks_suc cs us s as_ f n b.1 h)
+asks_suc (c ∷ cs) us s as_ f n b h = ap (λ d. asks_for d s ∷ asks_on (use_asks (suc n) cs us s as_) f) (condition_on c us f (suc n) b.0 h)
+    ∙ ap (λ x. asks_for (condition_at (suc n) (types_on us f) c) s ∷ x) (asks_suc cs us s as_ f n b.1 h)
 
 use_asks_on : (n : ℕ) (it : Known) (us : List Ty) (s : Span) (as_ : List Ask) (f : Sub) → ClosesBy n it → length us ≡ n
     → asks_on (use_asks n it.conditions us s as_) f ≡ use_asks n (known_by n it f).conditions (types_on us f) s (asks_on as_ f)
@@ -82,11 +91,13 @@ params_zero : (ps us vs : List Ty) (f : Sub) → types_on (map (at_types 0 us) p
 params_zero [] us vs f = refl
 params_zero (p ∷ ps) us vs f = ap (λ x. on p f ∷ x) (params_zero ps us vs f)
 
-params_suc : (ps us : List Ty) (f : Sub) (n : ℕ) → EachIsBelow ps (suc n) → suc n ≤ length us → types_on (map (at_types (suc n) us) ps) f ≡ map (at_types (suc n) (types_on us f)) ps
+params_suc : (ps us : List Ty) (f : Sub) (n : ℕ) → EachIsBelow ps (suc n) → suc n ≤ length us
+    → types_on (map (at_types (suc n) us) ps) f ≡ map (at_types (suc n) (types_on us f)) ps
 params_suc [] us f n b h = refl
 params_suc (p ∷ ps) us f n b h = let x = instance_on p us f (suc n) b.0 h in let z = params_suc ps us f n b.1 h in cc
 
-params_on : (n : ℕ) (it : Known) (us : List Ty) (f : Sub) → ClosesBy n it → length us ≡ n → types_on (map (at_types n us) it.params) f ≡ map (at_types n (types_on us f)) (known_by n it f).params
+params_on : (n : ℕ) (it : Known) (us : List Ty) (f : Sub) → ClosesBy n it → length us ≡ n
+    → types_on (map (at_types n us) it.params) f ≡ map (at_types n (types_on us f)) (known_by n it f).params
 params_on zero it us f c h = params_zero it.params us (types_on us f) f
 params_on (suc n) it us f c h = params_suc it.params us f n c.0 (omega (arith, h))
 
@@ -164,7 +175,8 @@ target_closes None env c = tt
 
 -- ---- forms of names
 
-types_first_on : (n : ℕ) (us : List Ty) (as_ : t.Args) (f : Sub) → retyped_args (types_first n us as_) (λ u. on u f) ≡ types_first n (types_on us f) (retyped_args as_ (λ u. on u f))
+types_first_on : (n : ℕ) (us : List Ty) (as_ : t.Args) (f : Sub)
+    → retyped_args (types_first n us as_) (λ u. on u f) ≡ types_first n (types_on us f) (retyped_args as_ (λ u. on u f))
 types_first_on n [] as_ f = refl
 types_first_on n (u ∷ us) as_ f = ap (t.by_type n (on u f)) (types_first_on (suc n) us as_ f)
 
@@ -208,7 +220,8 @@ local_form_on : (l : Option Local) (f : Sub) → retyped_form (local_form l) (λ
 local_form_on None f = refl
 local_form_on (Some l) f = by_kind l l.kind
   where
-    by_kind : (l : Local) (kind : Kind) → (let m : Local = record l { kind = kind } in retyped_form (local_form (Some m)) (λ u. on u f)) ≡ (let m : Local = record l { kind = kind } in local_form (option_local (Some m) f))
+    by_kind : (l : Local) (kind : Kind) → (let m : Local = record l { kind = kind } in retyped_form (local_form (Some m)) (λ u. on u f)) ≡ (let m : Local =
+        record l { kind = kind } in local_form (option_local (Some m) f))
     by_kind l k.Grammar = refl
     by_kind l k.Value = refl
     by_kind l k.Class = refl
@@ -234,14 +247,16 @@ noted_on (Some (b.BuiltIn x)) xs z f = of_builtin x xs
     of_builtin other xs = refl
 
 -- a name with its arguments
-pub a_named_on : (o : Option Bound) (kind : Kind) (s : Span) (xs : List (List ℕ)) (env : Env) (us : List Ty) (r : TypedArgs) (f : Sub) → AreClosed env → length us ≡ (target o env).vars
+pub a_named_on : (o : Option Bound) (kind : Kind) (s : Span) (xs : List (List ℕ)) (env : Env) (us : List Ty) (r : TypedArgs) (f : Sub) → AreClosed env
+    → length us ≡ (target o env).vars
     → typed_on (a_named o kind s xs env us r) f ≡ a_named o kind s xs (env_on env f) (types_on us f) (args_on r f)
 a_named_on o kind s xs env us r f c h =
     let it = target o env in
     let p = of_on it.vars it us f (target_closes o env c) h in
     let q = use_asks_on it.vars it us s r.asks f (target_closes o env c) h in
     same_typed s (named_form_on o kind env us r f)
-    (p ∙ ap (λ n. at_types n (types_on us f) (known_on it f).of) (sym (vars_by it.vars it f)) ∙ ap (λ w. at_types w.vars (types_on us f) w.of) (sym (target_on o env f)))
+    (p ∙ ap (λ n. at_types n (types_on us f) (known_on it f).of) (sym (vars_by it.vars it f))
+    ∙ ap (λ w. at_types w.vars (types_on us f) w.of) (sym (target_on o env f)))
     (q ∙ ap (λ n. use_asks n (known_on it f).conditions (types_on us f) s (asks_on r.asks f)) (sym (vars_by it.vars it f))
     ∙ ap (λ w. use_asks w.vars w.conditions (types_on us f) s (asks_on r.asks f)) (sym (target_on o env f)))
     (noted_on o xs r.state f)
@@ -252,11 +267,13 @@ target_vars_on o env f = ap (λ w. w.vars) (target_on o env f) ∙ vars_by (targ
 pub target_kinds_on : (o : Option Bound) (env : Env) (f : Sub) → (target o (env_on env f)).kinds ≡ (target o env).kinds
 target_kinds_on o env f = ap (λ w. w.kinds) (target_on o env f) ∙ kinds_by (target o env).vars (target o env) f
 
-pub wanted_on : (o : Option Bound) (env : Env) (us : List Ty) (f : Sub) → AreClosed env → length us ≡ (target o env).vars → types_on (wanted_at (target o env) us) f ≡ wanted_at (target o (env_on env f)) (types_on us f)
+pub wanted_on : (o : Option Bound) (env : Env) (us : List Ty) (f : Sub) → AreClosed env → length us ≡ (target o env).vars
+    → types_on (wanted_at (target o env) us) f ≡ wanted_at (target o (env_on env f)) (types_on us f)
 wanted_on o env us f c h =
     let it = target o env in
     params_on it.vars it us f (target_closes o env c) h
-    ∙ ap (λ n. map (at_types n (types_on us f)) (known_on it f).params) (sym (vars_by it.vars it f)) ∙ ap (λ w. wanted_at w (types_on us f)) (sym (target_on o env f))
+    ∙ ap (λ n. map (at_types n (types_on us f)) (known_on it f).params) (sym (vars_by it.vars it f))
+    ∙ ap (λ w. wanted_at w (types_on us f)) (sym (target_on o env f))
 
 -- ---- arguments and classes
 
@@ -266,7 +283,8 @@ before_argument_on k.Value z f = refl
 before_argument_on k.Class z f = refl
 before_argument_on k.Bits z f = refl
 
-pub behind_argument_on : (kind : Kind) (c : OneClass) (l : Typed) (f : Sub) → state_on (behind_argument kind c l) f ≡ behind_argument kind (class_on c f) (typed_on l f)
+pub behind_argument_on : (kind : Kind) (c : OneClass) (l : Typed) (f : Sub)
+    → state_on (behind_argument kind c l) f ≡ behind_argument kind (class_on c f) (typed_on l f)
 behind_argument_on k.Grammar c l f = refl
 behind_argument_on k.Value c l f = refl
 behind_argument_on k.Class c l f = refl
@@ -288,7 +306,8 @@ number_on (Some l) f = refl
 
 named_class_on : (o : Option Bound) (env : Env) (f : Sub) → named_class (env_on env f) o ≡ named_class env o
 named_class_on (Some (b.Decl n)) env f = refl
-named_class_on (Some (b.Local s)) env f = ap (λ l. t.class_parameter (number_of l)) (local_found env.locals s f) ∙ ap t.class_parameter (number_on (local_at s env.locals) f)
+named_class_on (Some (b.Local s)) env f = ap (λ l. t.class_parameter (number_of l)) (local_found env.locals s f)
+    ∙ ap t.class_parameter (number_on (local_at s env.locals) f)
 named_class_on (Some (b.BuiltIn x)) env f = refl
 named_class_on None env f = refl
 
@@ -311,11 +330,13 @@ class_made_on (y.Union l r s) env z f =
     ap (λ as_. let m : MadeClass = record { class = t.or_ x.class w.class; asks = as_; state = state_on w.state f } in m) (asks_append x.asks w.asks f)
     ∙ ap (either_class (made_class_on x f)) (class_made_on r env x.state f)
     ∙ ap (λ m. either_class m (class_made r (env_on env f) m.state)) (class_made_on l env z f)
-class_made_on (y.One x) env z f = ap (λ as_. let m : MadeClass = record { class = (class_made (y.One x) env z).class; asks = as_; state = state_on z f } in m) (byte_asks_on x f)
+class_made_on (y.One x) env z f = ap (λ as_. let m : MadeClass = record { class = (class_made (y.One x) env z).class; asks = as_; state = state_on z f }
+    in m) (byte_asks_on x f)
 class_made_on (y.Range x w s) env z f =
     ap (λ as_. let m : MadeClass = record { class = (class_made (y.Range x w s) env z).class; asks = as_; state = state_on z f } in m)
     (asks_append (byte_asks x) (byte_asks w) f ∙ ap (λ xs. xs ++ asks_on (byte_asks w) f) (byte_asks_on x f) ∙ ap (λ xs. byte_asks x ++ xs) (byte_asks_on w f))
-class_made_on (y.Known x) env z f = ap (λ c. let m : MadeClass = record { class = c; asks = []; state = state_on (class_made (y.Known x) env z).state f } in m) (sym (named_class_on (bound_next z.uses) env f))
+class_made_on (y.Known x) env z f = ap (λ c. let m : MadeClass = record { class = c; asks = []; state = state_on (class_made (y.Known x) env z).state f }
+    in m) (sym (named_class_on (bound_next z.uses) env f))
 class_made_on (y.Other c s) env z f = ap other_class (class_made_on c env z f)
 class_made_on (y.Grouped c s) env z f = class_made_on c env z f
 class_made_on (y.Set c s) env z f = class_made_on c env z f
@@ -328,7 +349,8 @@ abbrev no_class : State → OneClass
 no_class z = record { class = t.class_parameter 0; asks = []; state = z }
 
 pub class_argument_on : (e : ex.Expr) (env : Env) (z : State) (f : Sub) → class_on (class_argument e env z) f ≡ class_argument e (env_on env f) (state_on z f)
-class_argument_on (ex.Class x) env z f = ap (λ c. let m : OneClass = record { class = c; asks = []; state = state_on (class_argument (ex.Class x) env z).state f } in m) (sym (named_class_on (bound_next z.uses) env f))
+class_argument_on (ex.Class x) env z f = ap (λ c. let m : OneClass =
+    record { class = c; asks = []; state = state_on (class_argument (ex.Class x) env z).state f } in m) (sym (named_class_on (bound_next z.uses) env f))
 class_argument_on (ex.Set c s) env z f = ap of_class (class_made_on c env z f)
 class_argument_on (ex.Paren a u s) env z f = class_argument_on a env z f
 class_argument_on e env z f = refl
@@ -343,7 +365,8 @@ bound_vars_on None known f = refl
 
 pub of_bound_on : (o : Option Bound) (known : ℕ → Known) (us : List Ty) (f : Sub) → ((d : ℕ) → Closes (known d)) → length us ≡ bound_vars o known
     → on (of_bound o known us) f ≡ of_bound o (all_known_on known f) (types_on us f)
-of_bound_on (Some (b.Decl d)) known us f c h = of_on (known d).vars (known d) us f (c d) h ∙ ap (λ n. at_types n (types_on us f) (known_on (known d) f).of) (sym (vars_by (known d).vars (known d) f))
+of_bound_on (Some (b.Decl d)) known us f c h = of_on (known d).vars (known d) us f (c d) h
+    ∙ ap (λ n. at_types n (types_on us f) (known_on (known d) f).of) (sym (vars_by (known d).vars (known d) f))
 of_bound_on (Some (b.Local s)) known us f c h = refl
 of_bound_on (Some (b.BuiltIn x)) known us f c h = refl
 of_bound_on None known us f c h = refl

@@ -2,7 +2,8 @@
 use Rattle.std.proofs.Common.{◌≡◌, refl, ap, ◌∙◌}
 use Rattle.ddl_types.specs.Types.{Ty}
 use Rattle.ddl_typed.specs.Tree as t
-use Rattle.ddl_typing.specs.Retyped.{retyped, retyped_form, retyped_all, retyped_named, retyped_content, retyped_cases, retyped_bounds, retyped_alts, retyped_args, retyped_items, retyped_item}
+use Rattle.ddl_typing.specs.Retyped.{retyped, retyped_form, retyped_all, retyped_named, retyped_content, retyped_cases, retyped_bounds, retyped_alts}
+use Rattle.ddl_typing.specs.Retyped.{retyped_args, retyped_items, retyped_item}
 
 module _ (f h g : Ty → Ty) (e : (u : Ty) → g u ≡ h (f u)) where
   mutual
@@ -21,9 +22,12 @@ module _ (f h g : Ty → Ty) (e : (u : Ty) → g u ≡ h (f u)) where
     form_twice (t.builtin o xs) = ap (λ y. t.builtin o y) (all_twice xs)
     form_twice (t.value_call d as_) = ap (λ y. t.value_call d y) (args_twice as_)
     form_twice (t.paren x) = ap (λ y. t.paren y) (twice x)
-    form_twice (t.if_ x w v) = ap (λ y. t.if_ y (retyped w g) (retyped v g)) (twice x) ∙ ap (λ y. t.if_ (retyped (retyped x f) h) y (retyped v g)) (twice w) ∙ ap (λ y. t.if_ (retyped (retyped x f) h) (retyped (retyped w f) h) y) (twice v)
+    form_twice (t.if_ x w v) = ap (λ y. t.if_ y (retyped w g) (retyped v g)) (twice x) ∙ ap (λ y. t.if_ (retyped (retyped x f) h) y (retyped v g)) (twice w)
+        ∙ ap (λ y. t.if_ (retyped (retyped x f) h) (retyped (retyped w f) h) y) (twice v)
     form_twice (t.case_ x cs) = ap (λ y. t.case_ y (retyped_cases cs g)) (twice x) ∙ ap (λ y. t.case_ (retyped (retyped x f) h) y) (cases_twice cs)
-    form_twice (t.for_ n x b w v) = ap (λ y. t.for_ n y b (retyped w g) (retyped v g)) (twice x) ∙ ap (λ y. t.for_ n (retyped (retyped x f) h) b y (retyped v g)) (twice w) ∙ ap (λ y. t.for_ n (retyped (retyped x f) h) b (retyped (retyped w f) h) y) (twice v)
+    form_twice (t.for_ n x b w v) = ap (λ y. t.for_ n y b (retyped w g) (retyped v g)) (twice x)
+        ∙ ap (λ y. t.for_ n (retyped (retyped x f) h) b y (retyped v g)) (twice w)
+        ∙ ap (λ y. t.for_ n (retyped (retyped x f) h) b (retyped (retyped w f) h) y) (twice v)
     form_twice (t.map_ b x w) = ap (λ y. t.map_ b y (retyped w g)) (twice x) ∙ ap (λ y. t.map_ b (retyped (retyped x f) h) y) (twice w)
     form_twice (t.pure x) = ap (λ y. t.pure y) (twice x)
     form_twice (t.match x) = ap (λ y. t.match y) (twice x)
@@ -78,7 +82,8 @@ module _ (f h g : Ty → Ty) (e : (u : Ty) → g u ≡ h (f u)) where
     pub args_twice : (as_ : t.Args) → retyped_args as_ g ≡ retyped_args (retyped_args as_ f) h
     args_twice t.no_args = refl
     args_twice (t.by_value n x as_) = ap (λ y. t.by_value n y (retyped_args as_ g)) (twice x) ∙ ap (t.by_value n (retyped (retyped x f) h)) (args_twice as_)
-    args_twice (t.by_grammar n s x as_) = ap (λ y. t.by_grammar n s y (retyped_args as_ g)) (twice x) ∙ ap (t.by_grammar n s (retyped (retyped x f) h)) (args_twice as_)
+    args_twice (t.by_grammar n s x as_) = ap (λ y. t.by_grammar n s y (retyped_args as_ g)) (twice x)
+        ∙ ap (t.by_grammar n s (retyped (retyped x f) h)) (args_twice as_)
     args_twice (t.by_class n c as_) = ap (t.by_class n c) (args_twice as_)
     args_twice (t.by_type n u as_) = ap (λ y. t.by_type n y (retyped_args as_ g)) (e u) ∙ ap (t.by_type n (h (f u))) (args_twice as_)
     args_twice (t.by_hand a b as_) = ap (t.by_hand a b) (args_twice as_)

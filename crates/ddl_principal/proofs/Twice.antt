@@ -34,37 +34,52 @@ module _ (f h g : Sub) (e : (n : ℕ) → g n ≡ on (f n) h) where
   condition_twice (lossless x y) = ap (λ w. lossless w (on y g)) (type_twice x) ∙ ap (lossless (on (on x f) h)) (type_twice y)
   condition_twice (cut x y) = ap (λ w. cut w (on y g)) (type_twice x) ∙ ap (cut (on (on x f) h)) (type_twice y)
   condition_twice (fit x y) = ap (λ w. fit w (on y g)) (type_twice x) ∙ ap (fit (on (on x f) h)) (type_twice y)
-  condition_twice (cat x y z) = ap (λ w. cat w (on y g) (on z g)) (type_twice x) ∙ ap (λ w. cat (on (on x f) h) w (on z g)) (type_twice y) ∙ ap (cat (on (on x f) h) (on (on y f) h)) (type_twice z)
+  condition_twice (cat x y z) = ap (λ w. cat w (on y g) (on z g)) (type_twice x) ∙ ap (λ w. cat (on (on x f) h) w (on z g)) (type_twice y)
+      ∙ ap (cat (on (on x f) h) (on (on y f) h)) (type_twice z)
   condition_twice (field x n y) = ap (λ w. field w n (on y g)) (type_twice x) ∙ ap (field (on (on x f) h) n) (type_twice y)
   condition_twice (tag x n y) = ap (λ w. tag w n (on y g)) (type_twice x) ∙ ap (tag (on (on x f) h) n) (type_twice y)
-  condition_twice (loops x y z) = ap (λ w. loops w (on y g) (on z g)) (type_twice x) ∙ ap (λ w. loops (on (on x f) h) w (on z g)) (type_twice y) ∙ ap (loops (on (on x f) h) (on (on y f) h)) (type_twice z)
+  condition_twice (loops x y z) = ap (λ w. loops w (on y g) (on z g)) (type_twice x) ∙ ap (λ w. loops (on (on x f) h) w (on z g)) (type_twice y)
+      ∙ ap (loops (on (on x f) h) (on (on y f) h)) (type_twice z)
 
   pub demand_twice : (d : Demand) → on_demand g d ≡ on_demand h (on_demand f d)
   demand_twice (condition c) = ap condition (condition_twice c)
   demand_twice (make x n y) = ap (λ w. make w n (on y g)) (type_twice x) ∙ ap (make (on (on x f) h) n) (type_twice y)
-  demand_twice (gather a b c d r) = ap (λ w. gather w (on b g) (on c g) (on d g) (on r g)) (type_twice a) ∙ ap (λ w. gather (on (on a f) h) w (on c g) (on d g) (on r g)) (type_twice b) ∙ ap (λ w. gather (on (on a f) h) (on (on b f) h) w (on d g) (on r g)) (type_twice c)
-      ∙ ap (λ w. gather (on (on a f) h) (on (on b f) h) (on (on c f) h) w (on r g)) (type_twice d) ∙ ap (gather (on (on a f) h) (on (on b f) h) (on (on c f) h) (on (on d f) h)) (type_twice r)
+  demand_twice (gather a b c d r) = ap (λ w. gather w (on b g) (on c g) (on d g) (on r g)) (type_twice a)
+      ∙ ap (λ w. gather (on (on a f) h) w (on c g) (on d g) (on r g)) (type_twice b)
+      ∙ ap (λ w. gather (on (on a f) h) (on (on b f) h) w (on d g) (on r g)) (type_twice c)
+      ∙ ap (λ w. gather (on (on a f) h) (on (on b f) h) (on (on c f) h) w (on r g)) (type_twice d)
+      ∙ ap (gather (on (on a f) h) (on (on b f) h) (on (on c f) h) (on (on d f) h)) (type_twice r)
 
   pub asks_twice : (as_ : List Ask) → asks_on as_ g ≡ asks_on (asks_on as_ f) h
   asks_twice [] = refl
-  asks_twice (equates q s ∷ as_) = ap (λ x. equates (equal x (on q.right g)) s ∷ asks_on as_ g) (type_twice q.left) ∙ ap (λ x. equates (equal (on (on q.left f) h) x) s ∷ asks_on as_ g) (type_twice q.right)
+  asks_twice (equates q s ∷ as_) = ap (λ x. equates (equal x (on q.right g)) s ∷ asks_on as_ g) (type_twice q.left)
+      ∙ ap (λ x. equates (equal (on (on q.left f) h) x) s ∷ asks_on as_ g) (type_twice q.right)
       ∙ ap (λ x. equates (equal (on (on q.left f) h) (on (on q.right f) h)) s ∷ x) (asks_twice as_)
-  asks_twice (demands d s ∷ as_) = ap (λ x. demands x s ∷ asks_on as_ g) (demand_twice d) ∙ ap (λ x. demands (on_demand h (on_demand f d)) s ∷ x) (asks_twice as_)
+  asks_twice (demands d s ∷ as_) = ap (λ x. demands x s ∷ asks_on as_ g) (demand_twice d)
+      ∙ ap (λ x. demands (on_demand h (on_demand f d)) s ∷ x) (asks_twice as_)
 
-  place_twice : (k : ℕ) (s : Span) (b : Bool) (names : List (List ℕ)) (us : List Ty) → let p : Place = record { span = s; vars = k; tagged = b; names = names; types = us } in place_on p g ≡ place_on (place_on p f) h
+  place_twice : (k : ℕ) (s : Span) (b : Bool) (names : List (List ℕ)) (us : List Ty) → let p : Place =
+      record { span = s; vars = k; tagged = b; names = names; types = us } in place_on p g ≡ place_on (place_on p f) h
   place_twice zero s b names us = ap (λ ts. let p : Place = record { span = s; vars = zero; tagged = b; names = names; types = ts } in p) (list_twice us)
   place_twice (suc k) s b names us = refl
 
   places_twice : (ps : List Place) → places_on ps g ≡ places_on (places_on ps f) h
   places_twice [] = refl
-  places_twice (p ∷ ps) = ap (λ x. x ∷ places_on ps g) (place_twice p.vars p.span p.tagged p.names p.types) ∙ ap (λ x. place_on (place_on p f) h ∷ x) (places_twice ps)
+  places_twice (p ∷ ps) = ap (λ x. x ∷ places_on ps g) (place_twice p.vars p.span p.tagged p.names p.types)
+      ∙ ap (λ x. place_on (place_on p f) h ∷ x) (places_twice ps)
 
   trees_twice : (es : List t.Expr) → trees_on es g ≡ trees_on (trees_on es f) h
   trees_twice [] = refl
-  trees_twice (x ∷ es) = ap (λ y. y ∷ trees_on es g) (twice (λ u. on u f) (λ u. on u h) (λ u. on u g) type_twice x) ∙ ap (λ y. tree_on (tree_on x f) h ∷ y) (trees_twice es)
+  trees_twice (x ∷ es) = ap (λ y. y ∷ trees_on es g) (twice (λ u. on u f) (λ u. on u h) (λ u. on u g) type_twice x)
+      ∙ ap (λ y. tree_on (tree_on x f) h ∷ y) (trees_twice es)
 
   pub group_twice : (m : TypedGroup) → group_on m g ≡ group_on (group_on m f) h
   group_twice m =
       ap (λ y. let r : TypedGroup = record { trees = y; asks = asks_on m.asks g; state = state_on m.state g } in r) (trees_twice m.trees)
       ∙ ap (λ y. let r : TypedGroup = record { trees = trees_on (trees_on m.trees f) h; asks = y; state = state_on m.state g } in r) (asks_twice m.asks)
-      ∙ ap (λ y. let r : TypedGroup = record { trees = trees_on (trees_on m.trees f) h; asks = asks_on (asks_on m.asks f) h; state = record m.state { places = y } } in r) (places_twice m.state.places)
+      ∙ ap (λ y. let r : TypedGroup = record {
+        trees = trees_on (trees_on m.trees f) h;
+        asks = asks_on (asks_on m.asks f) h;
+        state =
+            record m.state { places = y };
+      } in r) (places_twice m.state.places)

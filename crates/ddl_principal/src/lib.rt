@@ -1,10 +1,6 @@
 //! The laws of typing.
 #![tactic(auto)]
 
-ghost use Rattle.ddl_principal.specs.Laws.{IsPrincipal, IsTyping};
+mod laws;
 
-/// What is elaborated of a group is a typing of it, and the principal one. There is nothing to run.
-pub fn principal_law()
-    ensures typing { IsTyping }
-    ensures principal { IsPrincipal }
-{}
+pub use laws::principal_law;

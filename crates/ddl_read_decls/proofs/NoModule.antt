@@ -112,4 +112,15 @@ keeps_import_list (list.Untagged v0 v1 v2) i fs = refl
 keeps_import_list (list.WithTags v0 v1 v2 v3) i fs = refl
 keeps_import_list (list.Alt v0 v1 v2 v3 v4) i fs = refl
 
-pub ruleset no_module = (keeps_decl_type, keeps_import_type, keeps_decl_class, keeps_import_class, keeps_decl_last, keeps_import_last, keeps_decl_inner, keeps_import_inner, keeps_decl_list, keeps_import_list)
+pub ruleset no_module = (
+  keeps_decl_type,
+  keeps_import_type,
+  keeps_decl_class,
+  keeps_import_class,
+  keeps_decl_last,
+  keeps_import_last,
+  keeps_decl_inner,
+  keeps_import_inner,
+  keeps_decl_list,
+  keeps_import_list,
+)

@@ -82,7 +82,8 @@ pub fn con_name(
     cons: Vec<Con>,
     deep: u32,
 ) -> Result<Focus, Refusal>
-    ensures { Gives (step.con_name kind.now at from name (map con_view cons.items) deep (forms stack.now)) result stack.now }
+    ensures { Gives (step.con_name kind.now at from name (map con_view cons.items) deep (forms stack.now)) result
+        stack.now }
 {
     match kind {
         Tok::Lower(text) => {
@@ -109,7 +110,8 @@ pub fn con_equals(
     deep: u32,
     con: Name,
 ) -> Result<Focus, Refusal>
-    ensures { Gives (step.con_equals_with kind.now from name (map con_view cons.items) deep con (forms stack.now)) result stack.now }
+    ensures { Gives (step.con_equals_with kind.now from name (map con_view cons.items) deep con (forms stack.now))
+        result stack.now }
 {
     match kind {
         Tok::Mark(Mark::Equals) => Ok(Focus::Bits(BitsFocus::Bits(Layout::Con {
@@ -134,7 +136,8 @@ fn con_of(name: Name, bits: Bits) -> Con
 /// One more constructor.
 #[tactic(auto, using(std::proofs::lemmas::List::map_push))]
 fn with_con(mut cons: Vec<Con>, name: Name, bits: Bits) -> Result<Vec<Con>, NoMemory>
-    ensures { IfOk result (λ all. map con_view all.items ≡ map con_view cons.items ++ step.con_of name (bits_view bits) ∷ []) }
+    ensures { IfOk result (λ all. map con_view all.items ≡ map con_view cons.items ++ step.con_of name (bits_view bits)
+        ∷ []) }
 {
     cons.push(con_of(name, bits))?;
     Ok(cons)
@@ -189,7 +192,8 @@ pub fn after_con(
     cons: Vec<Con>,
     deep: u32,
 ) -> Result<Focus, Refusal>
-    ensures { Gives (step.after_con_with kind.now at from name (map con_view cons.items) deep (forms stack.old)) result stack.new }
+    ensures { Gives (step.after_con_with kind.now at from name (map con_view cons.items) deep (forms stack.old)) result
+        stack.new }
 {
     match kind {
         Tok::Mark(Mark::Semicolon) => Ok(Focus::Bits(BitsFocus::Con {
@@ -280,7 +284,8 @@ pub fn part_colon(
     parted: Parted,
     start: PartStart,
 ) -> Result<Focus, Refusal>
-    ensures { Gives (step.part_colon_with kind.now (parted_view parted) (part_start_view start) (forms stack.old)) result stack.new }
+    ensures { Gives (step.part_colon_with kind.now (parted_view parted) (part_start_view start) (forms stack.old))
+        result stack.new }
 {
     match kind {
         Tok::Mark(Mark::Colon) => {
@@ -334,7 +339,9 @@ pub fn after_part_type(
     start: PartStart,
     part: FoundType,
 ) -> Result<Focus, Refusal>
-    ensures { Gives (step.after_part_with kind.now at (step.with_part (parted_view parted) (step.part_of (part_start_view start) (type_view part.of)) part.deep) (forms stack.old)) result stack.new }
+    ensures { Gives (step.after_part_with kind.now at
+        (step.with_part (parted_view parted) (step.part_of (part_start_view start) (type_view part.of)) part.deep)
+        (forms stack.old)) result stack.new }
 {
     let parted = with_part(parted, part_of(start, part.of), part.deep)?;
     after_part(stack, kind, at, parted)

@@ -147,7 +147,8 @@ pub fn param_colon(
     sort: Sort,
     name: Name,
 ) -> Result<Focus, Refusal>
-    ensures { Gives (step.param_colon_with kind.now (head_view head) from (sort_view sort) name (forms stack.old)) result stack.new }
+    ensures { Gives (step.param_colon_with kind.now (head_view head) from (sort_view sort) name (forms stack.old))
+        result stack.new }
 {
     match kind {
         Tok::Mark(Mark::Colon) => {
@@ -184,7 +185,8 @@ pub fn after_param_type(
     name: Name,
     part: FoundType,
 ) -> Result<Focus, Refusal>
-    ensures { Gives (step.after_param_type kind.now at (head_view head) from (sort_view sort) name (found_type_view part) (forms stack.now)) result stack.now }
+    ensures { Gives (step.after_param_type kind.now at (head_view head) from (sort_view sort) name
+        (found_type_view part) (forms stack.now)) result stack.now }
 {
     match kind {
         Tok::Mark(Mark::CloseParen) => {
@@ -202,7 +204,8 @@ pub fn after_result(
     head: Head,
     part: FoundType,
 ) -> Result<Focus, Refusal>
-    ensures { Gives (step.after_result kind.now (head_view head) (found_type_view part) (forms stack.old)) result stack.new }
+    ensures { Gives (step.after_result kind.now (head_view head) (found_type_view part) (forms stack.old)) result
+        stack.new }
 {
     match kind {
         Tok::Mark(Mark::Equals) => {
@@ -218,7 +221,8 @@ pub fn after_result(
 }
 
 fn decl_of(head: Head, result_type: Option<TypeExpr>, body: Found) -> Decl
-    ensures { decl_view result ≡ step.decl_of (sort_view head.sort) head.name (map param_view head.params.items) (typed_view result_type) (found_view body) (step_type.joined head.from (expr_span (view body.expr.value))) }
+    ensures { decl_view result ≡ step.decl_of (sort_view head.sort) head.name (map param_view head.params.items)
+        (typed_view result_type) (found_view body) (step_type.joined head.from (expr_span (view body.expr.value))) }
 {
     let span = joined(head.from, body.expr.span());
     let body = Box::into_inner(body.expr);
@@ -248,7 +252,8 @@ pub fn close_body(
     deep: u32,
     body: Found,
 ) -> Result<(), NoMemory>
-    ensures { OnOk result (forms stack.new ≡ step.close_body (head_view head) (typed_view result_type) deep (found_view body) (forms stack.old)) }
+    ensures { OnOk result (forms stack.new ≡ step.close_body (head_view head) (typed_view result_type) deep
+        (found_view body) (forms stack.old)) }
 {
     let deep = head.deep.max(deep.max(body.deep));
     declare(stack, decl_of(head, result_type, body), deep)
@@ -293,7 +298,8 @@ pub fn after_class_body(
     name: Name,
     body: FoundClass,
 ) -> Result<Focus, Refusal>
-    ensures { Gives (step.after_class_body kind.now at from name (found_class_view body) (forms stack.old)) result stack.new }
+    ensures { Gives (step.after_class_body kind.now at from name (found_class_view body) (forms stack.old)) result
+        stack.new }
 {
     match kind {
         Tok::Mark(Mark::Bar) => {

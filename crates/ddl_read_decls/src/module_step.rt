@@ -18,14 +18,16 @@ use std::alloc::Global;
 #[tactic(auto, using(std::proofs::lemmas::List::map_push))]
 fn with_decl(mut tree: Module, decl: Decl) -> Result<Module, NoMemory>
     ensures imports { IfOk result (λ all. all.imports.items ≡ tree.imports.items) }
-    ensures decls { IfOk result (λ all. map decl_view all.decls.items ≡ map decl_view tree.decls.items ++ decl_view decl ∷ []) }
+    ensures decls { IfOk result (λ all. map decl_view all.decls.items ≡ map decl_view tree.decls.items ++ decl_view decl
+        ∷ []) }
 {
     tree.decls.push(decl)?;
     Ok(tree)
 }
 
 fn declare_in(stack: &mut Stack, frame: DeclFrame, decl: Decl, deep: u32) -> Result<(), NoMemory>
-    ensures { OnOk result (forms stack.new ≡ step.with_decl (decl_view decl) deep (decl_frame_view frame ∷ forms stack.old)) }
+    ensures { OnOk result (forms stack.new ≡ step.with_decl (decl_view decl) deep
+        (decl_frame_view frame ∷ forms stack.old)) }
 {
     match frame {
         DeclFrame::Module { tree, deep: before } => {

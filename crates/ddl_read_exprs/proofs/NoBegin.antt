@@ -249,4 +249,30 @@ no_close_low_decl (decl.Body v0 v1 v2) at fs = refl
 no_close_low_decl (decl.ClassBody v0 v1) at fs = refl
 no_close_low_decl (decl.Part v0 v1) at fs = refl
 
-pub ruleset no_begin = (no_begin_result_type, no_begin_result_class, no_begin_result_last, no_begin_result_inner, no_begin_result_decl, no_begin_let_type, no_begin_let_class, no_begin_let_last, no_begin_let_inner, no_begin_let_decl, no_close_array_type, no_close_array_class, no_close_array_last, no_close_array_inner, no_close_array_decl, no_begin_high_type, no_begin_high_class, no_begin_high_last, no_begin_high_list, no_begin_high_decl, no_close_low_type, no_close_low_class, no_close_low_last, no_close_low_list, no_close_low_decl)
+pub ruleset no_begin = (
+  no_begin_result_type,
+  no_begin_result_class,
+  no_begin_result_last,
+  no_begin_result_inner,
+  no_begin_result_decl,
+  no_begin_let_type,
+  no_begin_let_class,
+  no_begin_let_last,
+  no_begin_let_inner,
+  no_begin_let_decl,
+  no_close_array_type,
+  no_close_array_class,
+  no_close_array_last,
+  no_close_array_inner,
+  no_close_array_decl,
+  no_begin_high_type,
+  no_begin_high_class,
+  no_begin_high_last,
+  no_begin_high_list,
+  no_begin_high_decl,
+  no_close_low_type,
+  no_close_low_class,
+  no_close_low_last,
+  no_close_low_list,
+  no_close_low_decl,
+)

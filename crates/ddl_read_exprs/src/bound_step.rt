@@ -95,7 +95,8 @@ pub fn after_paren_type(
     of: FoundType,
 ) -> Result<Focus, Refusal>
     requires { 1 + max inner.deep of.deep ≤ 400 }
-    ensures { Gives (step.after_paren_type kind.now at from (found_view inner) (found_type_view of) (forms stack.now)) result stack.now }
+    ensures { Gives (step.after_paren_type kind.now at from (found_view inner) (found_type_view of) (forms stack.now))
+        result stack.now }
 {
     match kind {
         Tok::Mark(Mark::CloseParen) => {
@@ -120,7 +121,8 @@ pub fn after_high(
     from: Span,
     high: Found,
 ) -> Result<Focus, Refusal>
-    ensures { Gives (step.after_high kind.now at (repeat_view repeat) from (found_view high) (forms stack.old)) result stack.new }
+    ensures { Gives (step.after_high kind.now at (repeat_view repeat) from (found_view high) (forms stack.old)) result
+        stack.new }
 {
     match kind {
         Tok::Mark(Mark::CloseParen) => {
@@ -148,7 +150,8 @@ pub fn after_between(
     low: Found,
     high: Found,
 ) -> Result<Focus, Refusal>
-    ensures { Gives (step.after_between kind.now at (repeat_view repeat) from (found_view low) (found_view high) (forms stack.old)) result stack.new }
+    ensures { Gives (step.after_between kind.now at (repeat_view repeat) from (found_view low) (found_view high)
+        (forms stack.old)) result stack.new }
 {
     match kind {
         Tok::Mark(Mark::CloseParen) => {

@@ -73,7 +73,8 @@ fn close_for(
     body: Found,
 ) -> Result<Found, NoMemory>
     requires { 1 + max start.deep (max list.deep body.deep) ≤ 400 }
-    ensures { IfOk result (ClosesTo (m.in_for_body from state (found_view start) names (found_view list)) (found_view body)) }
+    ensures { IfOk result (ClosesTo (m.in_for_body from state (found_view start) names (found_view list))
+        (found_view body)) }
 {
     let deep = 1 + start.deep.max(list.deep.max(body.deep));
     let repeated = Expr::For {

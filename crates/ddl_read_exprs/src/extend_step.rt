@@ -71,7 +71,10 @@ fn infix_with(stack: &mut Stack, op: InfixOp, left: Found) -> Result<Focus, Refu
 
 /// `as`, `as!` or `as?`.
 fn cast_with(stack: &mut Stack, op: CastOp, value: Found) -> Result<Focus, Refusal>
-    ensures { Gives (step.if_above 15 (found_view value) (m.in_cast op (found_view value) ∷ forms stack.old, m.want_type)) result stack.new }
+    ensures { Gives (step.if_above 15 (found_view value) (
+      m.in_cast op (found_view value) ∷ forms stack.old,
+      m.want_type,
+    )) result stack.new }
 {
     if level(&value.expr) >= 15 {
         stack.push(Frame::Type(TypeFrame::Cast { op, value }))?;
@@ -83,7 +86,8 @@ fn cast_with(stack: &mut Stack, op: CastOp, value: Found) -> Result<Focus, Refus
 
 /// `is`
 fn is_with(stack: &Stack, value: Found) -> Result<Focus, Refusal>
-    ensures { Gives (step.if_above 4 (found_view value) (forms stack.now, m.want_shape (found_view value))) result stack.now }
+    ensures { Gives (step.if_above 4 (found_view value) (forms stack.now, m.want_shape (found_view value))) result
+        stack.now }
 {
     if level(&value.expr) >= 4 {
         Ok(Focus::Field(FieldFocus::Shape(value)))
@@ -94,7 +98,8 @@ fn is_with(stack: &Stack, value: Found) -> Result<Focus, Refusal>
 
 /// `.`
 fn dot_with(stack: &Stack, value: Found) -> Result<Focus, Refusal>
-    ensures { Gives (step.if_above 17 (found_view value) (forms stack.now, m.want_field (found_view value))) result stack.now }
+    ensures { Gives (step.if_above 17 (found_view value) (forms stack.now, m.want_field (found_view value))) result
+        stack.now }
 {
     if level(&value.expr) >= 17 {
         Ok(Focus::Field(FieldFocus::Select(value)))

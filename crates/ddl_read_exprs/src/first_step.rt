@@ -4,7 +4,8 @@ ghost use Rattle.std.specs.Prelude.{◌≡◌, [], ◌∷◌};
 ghost use Rattle.ddl_tree.specs.ExprTree as ex;
 ghost use Rattle.ddl_tree.specs.View.{view};
 ghost use Rattle.ddl_states.specs.FocusView.{loop_focus_view};
-ghost use Rattle.ddl_states.specs.FrameView.{frame_view, inner_frame_view, last_frame_view, list_frame_view, repeat_view};
+ghost use Rattle.ddl_states.specs.FrameView.{frame_view, inner_frame_view, last_frame_view, list_frame_view};
+ghost use Rattle.ddl_states.specs.FrameView.{repeat_view};
 ghost use Rattle.ddl_reader.specs.Frames as m;
 ghost use Rattle.ddl_states.specs.Gives.{Gives, Comes};
 ghost use Rattle.ddl_states.specs.StackView.{forms};
@@ -30,7 +31,8 @@ fn atom(alloc: Global, stack: &Stack, expr: Expr) -> Result<Focus, NoMemory>
 
 /// Opens a form where an expression of this nonterminal may stand.
 fn open_within(stack: &mut Stack, level: u8, frame: Frame) -> Result<Focus, Refusal>
-    ensures { Gives (step.if_within level (forms stack.old) (frame_view frame ∷ forms stack.old, m.want)) result stack.new }
+    ensures { Gives (step.if_within level (forms stack.old) (frame_view frame ∷ forms stack.old, m.want)) result
+        stack.new }
 {
     if stack.least() <= level {
         Ok(open(stack, frame)?)
@@ -176,7 +178,8 @@ fn begin_mark(alloc: Global, stack: &mut Stack, mark: Mark, at: Span) -> Result<
 }
 
 fn open_prefix(stack: &mut Stack, op: PrefixOp, from: Span) -> Result<Focus, Refusal>
-    ensures { Gives (step.if_within 14 (forms stack.old) (m.in_prefix op from ∷ forms stack.old, m.want)) result stack.new }
+    ensures { Gives (step.if_within 14 (forms stack.old) (m.in_prefix op from ∷ forms stack.old, m.want)) result
+        stack.new }
 {
     open_within(stack, 14, Frame::Last(LastFrame::Prefix { op, from }))
 }
@@ -278,7 +281,8 @@ fn close_array(alloc: Global, stack: &mut Stack, at: Span) -> Result<Focus, Refu
 }
 
 fn empty_array(alloc: Global, stack: &Stack, from: Span, at: Span) -> Result<Focus, NoMemory>
-    ensures { Comes (forms stack.now, m.have (step_type.found (ex.Array ex.no_exprs (step_type.joined from at)) 1)) result stack.now }
+    ensures { Comes (forms stack.now, m.have (step_type.found (ex.Array ex.no_exprs (step_type.joined from at)) 1))
+        result stack.now }
 {
     let array = Expr::Array {
         elements: Vec::new(alloc),

@@ -12,7 +12,8 @@ pub field_none : (s : Span) (is : List ex.Item) (n : ℕ) (b : Start) (e : ex.Ex
 field_none s is n m.plainly (ex.Lower x) fs h = cc
 field_none s is n _ _ fs h = refl
 
-pub field_some : (s : Span) (is : List ex.Item) (n : ℕ) (e : ex.Expr) (x : Name) (fs : List Frame) → named e ≡ Some x → field_of_block s is n m.plainly e fs ≡ Some (m.in_block s is n (m.field x) ∷ fs, m.want)
+pub field_some : (s : Span) (is : List ex.Item) (n : ℕ) (e : ex.Expr) (x : Name) (fs : List Frame) → named e ≡ Some x
+    → field_of_block s is n m.plainly e fs ≡ Some (m.in_block s is n (m.field x) ∷ fs, m.want)
 field_some s is n (ex.Lower y) x fs h = cc
 field_some s is n _ x fs h = cc
 

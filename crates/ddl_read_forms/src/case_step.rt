@@ -176,7 +176,8 @@ pub fn after_alt(
     body: Found,
 ) -> Result<Focus, Refusal>
     requires { 1 + max cases.subject.deep (max cases.deep body.deep) ≤ 400 }
-    ensures { Gives (step.after_alt kind.now at cases.from (found_view cases.subject) (map alt_view cases.alts.items) cases.deep pattern (found_view body) (forms stack.now)) result stack.now }
+    ensures { Gives (step.after_alt kind.now at cases.from (found_view cases.subject) (map alt_view cases.alts.items)
+        cases.deep pattern (found_view body) (forms stack.now)) result stack.now }
 {
     let Cases {
         from,

@@ -81,7 +81,8 @@ pub fn after_array(
     last: Found,
 ) -> Result<Focus, Refusal>
     requires { 1 + max deep last.deep ≤ 400 }
-    ensures { Gives (step.after_array kind.now at from (map view elements.items) deep (found_view last) (forms stack.old)) result stack.new }
+    ensures { Gives (step.after_array kind.now at from (map view elements.items) deep (found_view last)
+        (forms stack.old)) result stack.new }
 {
     match kind {
         Tok::Mark(Mark::Comma) => {
@@ -143,7 +144,8 @@ pub fn next_field(
     fields: Vec<Binding>,
     deep: u32,
 ) -> Result<Focus, Refusal>
-    ensures { Gives (step.next_field kind.now at from (map binding_view fields.items) deep (forms stack.now)) result stack.now }
+    ensures { Gives (step.next_field kind.now at from (map binding_view fields.items) deep (forms stack.now)) result
+        stack.now }
 {
     match kind {
         Tok::Lower(name) => {
@@ -168,7 +170,8 @@ pub fn record_equals(
     deep: u32,
     name: Name,
 ) -> Result<Focus, Refusal>
-    ensures { Gives (step.record_equals_with kind.now from (map binding_view fields.items) deep name (forms stack.old)) result stack.new }
+    ensures { Gives (step.record_equals_with kind.now from (map binding_view fields.items) deep name (forms stack.old))
+        result stack.new }
 {
     match kind {
         Tok::Mark(Mark::Equals) => {
@@ -197,7 +200,8 @@ pub fn after_field(
     value: Found,
 ) -> Result<Focus, Refusal>
     requires { 1 + max deep value.deep ≤ 400 }
-    ensures { Gives (step.after_field kind.now at from (map binding_view fields.items) deep name (found_view value) (forms stack.now)) result stack.now }
+    ensures { Gives (step.after_field kind.now at from (map binding_view fields.items) deep name (found_view value)
+        (forms stack.now)) result stack.now }
 {
     match kind {
         Tok::Mark(Mark::Comma) => {

@@ -50,7 +50,8 @@ pub fn let_name(
     deep: u32,
     let_at: Span,
 ) -> Result<Focus, Refusal>
-    ensures { Gives (step.let_name_with kind.now at from (map item_view items.items) deep let_at (forms stack.now)) result stack.now }
+    ensures { Gives (step.let_name_with kind.now at from (map item_view items.items) deep let_at (forms stack.now))
+        result stack.now }
 {
     match kind {
         Tok::Lower(name) => {
@@ -75,7 +76,8 @@ pub fn item_equals(
     deep: u32,
     start: Start,
 ) -> Result<Focus, Refusal>
-    ensures { Gives (step.item_equals_with kind.now from (map item_view items.items) deep (start_view start) (forms stack.old)) result stack.new }
+    ensures { Gives (step.item_equals_with kind.now from (map item_view items.items) deep (start_view start)
+        (forms stack.old)) result stack.new }
 {
     match kind {
         Tok::Mark(Mark::Equals) => {
@@ -111,7 +113,8 @@ fn field_of_block(
     start: Start,
     part: Expr,
 ) -> Result<Focus, Refusal>
-    ensures { Gives (step.field_of_block from (map item_view items.items) deep (start_view start) (view part) (forms stack.old)) result stack.new }
+    ensures { Gives (step.field_of_block from (map item_view items.items) deep (start_view start) (view part)
+        (forms stack.old)) result stack.new }
 {
     let Some(name) = name_of(part) else {
         return Err(Refusal::Unexpected);
@@ -143,7 +146,8 @@ pub fn after_item(
     part: Found,
 ) -> Result<Focus, Refusal>
     requires { 1 + max deep part.deep ≤ 400 }
-    ensures { Gives (step.after_item kind.now at from (map item_view items.items) deep (start_view start) (found_view part) (forms stack.old)) result stack.new }
+    ensures { Gives (step.after_item kind.now at from (map item_view items.items) deep (start_view start)
+        (found_view part) (forms stack.old)) result stack.new }
 {
     match kind {
         Tok::Mark(Mark::Semicolon) => {
@@ -200,7 +204,8 @@ fn first_tag(
     alternatives: Vec<Expr>,
     part: Expr,
 ) -> Result<Focus, Refusal>
-    ensures { Gives (step.first_tag (repeat_view repeat) (map view alternatives.items) (view part) (forms stack.old)) result stack.new }
+    ensures { Gives (step.first_tag (repeat_view repeat) (map view alternatives.items) (view part) (forms stack.old))
+        result stack.new }
 {
     let Some(tag) = name_of(part) else {
         return Err(Refusal::Unexpected);
@@ -230,7 +235,8 @@ pub fn after_untagged(
     part: Found,
 ) -> Result<Focus, Refusal>
     requires { 1 + max deep part.deep ≤ 400 }
-    ensures { Gives (step.after_untagged kind.now at (repeat_view repeat) (map view alternatives.items) deep (found_view part) (forms stack.old)) result stack.new }
+    ensures { Gives (step.after_untagged kind.now at (repeat_view repeat) (map view alternatives.items) deep
+        (found_view part) (forms stack.old)) result stack.new }
 {
     match kind {
         Tok::Mark(Mark::Semicolon) => {
@@ -272,7 +278,8 @@ pub fn want_tag(
     alternatives: Vec<Binding>,
     deep: u32,
 ) -> Result<Focus, Refusal>
-    ensures { Gives (step.want_tag_with kind.now at (repeat_view repeat) (map binding_view alternatives.items) deep (forms stack.now)) result stack.now }
+    ensures { Gives (step.want_tag_with kind.now at (repeat_view repeat) (map binding_view alternatives.items) deep
+        (forms stack.now)) result stack.now }
 {
     match kind {
         Tok::Lower(name) => {
@@ -297,7 +304,8 @@ pub fn tag_equals(
     deep: u32,
     tag: Name,
 ) -> Result<Focus, Refusal>
-    ensures { Gives (step.tag_equals_with kind.now (repeat_view repeat) (map binding_view alternatives.items) deep tag (forms stack.old)) result stack.new }
+    ensures { Gives (step.tag_equals_with kind.now (repeat_view repeat) (map binding_view alternatives.items) deep tag
+        (forms stack.old)) result stack.new }
 {
     match kind {
         Tok::Mark(Mark::Equals) => {
@@ -326,7 +334,8 @@ pub fn after_with_tags(
     part: Found,
 ) -> Result<Focus, Refusal>
     requires { 1 + max deep part.deep ≤ 400 }
-    ensures { Gives (step.after_with_tags kind.now at (repeat_view repeat) (map binding_view alternatives.items) deep tag (found_view part) (forms stack.now)) result stack.now }
+    ensures { Gives (step.after_with_tags kind.now at (repeat_view repeat) (map binding_view alternatives.items) deep
+        tag (found_view part) (forms stack.now)) result stack.now }
 {
     match kind {
         Tok::Mark(Mark::Semicolon) => {

@@ -195,7 +195,8 @@ pub fn after_then(
     condition: Found,
     then: Found,
 ) -> Result<Focus, Refusal>
-    ensures { Gives (step.after_then kind.now from (found_view condition) (found_view then) (forms stack.old)) result stack.new }
+    ensures { Gives (step.after_then kind.now from (found_view condition) (found_view then) (forms stack.old)) result
+        stack.new }
 {
     match kind {
         Tok::Word(Word::Else) => {
@@ -240,7 +241,8 @@ pub fn after_for_list(
     names: Names,
     list: Found,
 ) -> Result<Focus, Refusal>
-    ensures { Gives (step.after_for_list kind.now from state (found_view start) names (found_view list) (forms stack.old)) result stack.new }
+    ensures { Gives (step.after_for_list kind.now from state (found_view start) names (found_view list)
+        (forms stack.old)) result stack.new }
 {
     match kind {
         Tok::Mark(Mark::CloseParen) => {

@@ -17,11 +17,14 @@ class_done_at (m.in_other s) fs c n = refl
 class_done_at (m.in_union a) fs c n = refl
 class_done_at _ fs c n = refl
 
-pub class_widens : (f : Frame) (gs fs : List Frame) (c d : FoundClass) → gs ≡ f ∷ fs → ends_class f c ≡ other d → class_done gs c.class c.deep ≡ class_done fs d.class d.deep
+pub class_widens : (f : Frame) (gs fs : List Frame) (c d : FoundClass) → gs ≡ f ∷ fs → ends_class f c ≡ other d
+    → class_done gs c.class c.deep ≡ class_done fs d.class d.deep
 class_widens f gs fs c d e h = ap (λ z. class_done z c.class c.deep) e ∙ class_done_at f fs c.class c.deep ∙ ap (λ z. class_at z f fs c) h
 
-pub class_joins : (f : Frame) (gs fs : List Frame) (c d : FoundClass) → gs ≡ f ∷ fs → ends_class f c ≡ joins d → class_done gs c.class c.deep ≡ (fs, m.have_class d)
+pub class_joins : (f : Frame) (gs fs : List Frame) (c d : FoundClass) → gs ≡ f ∷ fs → ends_class f c ≡ joins d
+    → class_done gs c.class c.deep ≡ (fs, m.have_class d)
 class_joins f gs fs c d e h = ap (λ z. class_done z c.class c.deep) e ∙ class_done_at f fs c.class c.deep ∙ ap (λ z. class_at z f fs c) h
 
-pub class_stops : (f : Frame) (gs fs : List Frame) (c : FoundClass) → gs ≡ f ∷ fs → ends_class f c ≡ alone → class_done gs c.class c.deep ≡ (f ∷ fs, m.have_class c)
+pub class_stops : (f : Frame) (gs fs : List Frame) (c : FoundClass) → gs ≡ f ∷ fs → ends_class f c ≡ alone
+    → class_done gs c.class c.deep ≡ (f ∷ fs, m.have_class c)
 class_stops f gs fs c e h = ap (λ z. class_done z c.class c.deep) e ∙ class_done_at f fs c.class c.deep ∙ ap (λ z. class_at z f fs c) h

@@ -85,7 +85,8 @@ pub fn class_done(
     deep: u32,
 ) -> Result<FoundClass, NoMemory>
     requires { height (forms stack.old) deep ≤ 400 }
-    ensures { IfOk result (λ whole. step.class_done (forms stack.old) (class_view class) deep ≡ (forms stack.new, m.have_class (found_class_view whole))) }
+    ensures { IfOk result (λ whole. step.class_done (forms stack.old) (class_view class) deep
+        ≡ (forms stack.new, m.have_class (found_class_view whole))) }
 {
     let mut part = FoundClass { class, deep };
     while let Some(frame) = stack.pop() {
@@ -155,7 +156,8 @@ fn begin_mark(stack: &mut Stack, mark: Mark, at: Span) -> Result<Focus, Refusal>
 #[tactic(auto, using(ddl_tree::proofs::Layers::layers, ddl_states::proofs::HeightsOf::height_most))]
 pub fn byte_done(alloc: Global, stack: &mut Stack, byte: ByteLit) -> Result<FoundClass, NoMemory>
     requires { height (forms stack.old) 1 ≤ 400 }
-    ensures { IfOk result (λ whole. step.class_done (forms stack.old) (cls.One byte) 1 ≡ (forms stack.new, m.have_class (found_class_view whole))) }
+    ensures { IfOk result (λ whole. step.class_done (forms stack.old) (cls.One byte) 1
+        ≡ (forms stack.new, m.have_class (found_class_view whole))) }
 {
     class_done(alloc, stack, Cls::One(byte), 1)
 }

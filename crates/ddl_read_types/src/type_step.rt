@@ -284,7 +284,8 @@ pub fn after_map_value(
     part: FoundType,
 ) -> Result<Focus, Refusal>
     requires { height (forms stack.old) (1 + max key.deep part.deep) ≤ 400 }
-    ensures { Gives (step.after_map_value kind.now at from (found_type_view key) (found_type_view part) (forms stack.old)) result stack.new }
+    ensures { Gives (step.after_map_value kind.now at from (found_type_view key) (found_type_view part)
+        (forms stack.old)) result stack.new }
 {
     match kind {
         Tok::Mark(Mark::CloseBracket) => {

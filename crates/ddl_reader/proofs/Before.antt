@@ -12,7 +12,8 @@ use Rattle.ddl_tree.specs.ExprTree as ex
 use Rattle.ddl_tree.specs.ExprTree.{expr_span}
 use Rattle.ddl_tree.specs.ModuleTree as mo
 use Rattle.ddl_tree.specs.ModuleTree.{bits_span}
-use Rattle.ddl_tree.specs.Print.{infix_token, prefix_token, cast_token, many_token, optional_token, choice_token, byte_token, print_type, print_typed, print_class, print_pattern, print_names, print, print_item, print_bound}
+use Rattle.ddl_tree.specs.Print.{infix_token, prefix_token, cast_token, many_token, optional_token, choice_token, byte_token, print_type, print_typed}
+use Rattle.ddl_tree.specs.Print.{print_class, print_pattern, print_names, print, print_item, print_bound}
 use Rattle.ddl_tree.specs.PrintModule.{print_params, print_part, print_parts, print_con, print_cons, print_decls, print_imports}
 use Rattle.ddl_reader.specs.Frames.{Frame, Focus, State, Found, FoundType, FoundClass, Head, Sort, Layout, Parted, PartStart, Repeat, Start, Loop, Cases}
 use Rattle.ddl_reader.specs.Frames as frame
@@ -64,7 +65,8 @@ head_tokens h r = k.Word w.Def ∷ sorted_name h.sort h.name ∷ print_params h.
 
 abbrev pub layout_tokens : Layout → List Tok → List Tok
 layout_tokens (frame.of_decl s x) r = k.Word w.Bitdata ∷ k.Upper x.text ∷ k.Mark m.Equals ∷ r
-layout_tokens (frame.of_con s x cs y n) r = k.Word w.Bitdata ∷ k.Upper x.text ∷ k.Word w.Where ∷ k.Mark m.OpenBrace ∷ each_con cs (k.Lower y.text ∷ k.Mark m.Equals ∷ r)
+layout_tokens (frame.of_con s x cs y n) r = k.Word w.Bitdata ∷ k.Upper x.text ∷ k.Word w.Where ∷ k.Mark m.OpenBrace
+    ∷ each_con cs (k.Lower y.text ∷ k.Mark m.Equals ∷ r)
 
 abbrev pub part_start_tokens : PartStart → List Tok → List Tok
 part_start_tokens (frame.named x) r = k.Lower x.text ∷ k.Mark m.Colon ∷ r

@@ -40,7 +40,8 @@ done_finishes (frame.in_other s ∷ fs) c n = done_finishes fs (cls.Other c (joi
 done_finishes (frame.in_union a ∷ fs) c n = refl
 done_finishes (_ ∷ fs) c n = refl
 
-done_steps : (fs : List Frame) (c : cls.Cls) (n : ℕ) (x : Tok) (s : Span) → class_on (class_done fs c n) x s ≡ step_at (class_done fs c n).1 (class_done fs c n).0 x s
+done_steps : (fs : List Frame) (c : cls.Cls) (n : ℕ) (x : Tok) (s : Span)
+    → class_on (class_done fs c n) x s ≡ step_at (class_done fs c n).1 (class_done fs c n).0 x s
 done_steps [] c n x s = refl
 done_steps (frame.in_other t ∷ fs) c n x s = done_steps fs (cls.Other c (joined t (class_span c))) (1 + n) x s
 done_steps (frame.in_union a ∷ fs) c n x s = refl
@@ -53,11 +54,13 @@ NoDots (k.Mark m.DotDot ∷ xs) = ⊥
 NoDots (x ∷ xs) = Unit {0}
 
 -- a byte with no `..` behind it is a class
-byte_step : (fs : List Frame) (b : ByteLit) (x : Tok) (xs : List Tok) (s : Span) → NoDots (x ∷ xs) → step_byte fs b x s ≡ class_on (class_done fs (cls.One b) 1) x s
+byte_step : (fs : List Frame) (b : ByteLit) (x : Tok) (xs : List Tok) (s : Span) → NoDots (x ∷ xs)
+    → step_byte fs b x s ≡ class_on (class_done fs (cls.One b) 1) x s
 byte_step fs b (k.Mark m.DotDot) xs s h = absurd h
 byte_step fs b _ xs s h = refl
 
-byte_done : (fs : List Frame) (b : ByteLit) (r : List Tok) (p : Places) → NoDots r → run (seen r p) (fs, frame.have_byte b) ≡ run (seen r p) (class_done fs (cls.One b) 1)
+byte_done : (fs : List Frame) (b : ByteLit) (r : List Tok) (p : Places) → NoDots r
+    → run (seen r p) (fs, frame.have_byte b) ≡ run (seen r p) (class_done fs (cls.One b) 1)
 byte_done fs b [] p h = done_finishes fs (cls.One b) 1
 byte_done fs b (x ∷ xs) p h = ap (goes (run (seen xs (after p)))) (byte_step fs b x xs (next p) h ∙ done_steps fs (cls.One b) 1 x (next p))
 
@@ -80,7 +83,8 @@ has_class (frame.in_class_body s x ∷ fs) c n h = refl
 has_class [] c n h = absurd h
 has_class (_ ∷ fs) c n h = absurd h
 
-or_class : (fs : List Frame) (c : FoundClass) (s : Span) → IsClassHole fs → step_at (frame.have_class c) fs (k.Mark m.Bar) s ≡ Some (frame.in_union c ∷ fs, frame.want_class)
+or_class : (fs : List Frame) (c : FoundClass) (s : Span) → IsClassHole fs
+    → step_at (frame.have_class c) fs (k.Mark m.Bar) s ≡ Some (frame.in_union c ∷ fs, frame.want_class)
 or_class (frame.in_grouped t ∷ fs) c s h = refl
 or_class (frame.in_class_set t ∷ fs) c s h = refl
 or_class (frame.in_set t ∷ fs) c s h = refl
@@ -88,16 +92,21 @@ or_class (frame.in_class_body t x ∷ fs) c s h = refl
 or_class [] c s h = absurd h
 or_class (_ ∷ fs) c s h = absurd h
 
-reads_one : (b : ByteLit) (fs : List Frame) (r : List Tok) (p : Places) → run (seen (byte_token b ∷ r) p) (fs, frame.want_class) ≡ run (seen r (after p)) (fs, frame.have_byte (place_byte b p))
+reads_one : (b : ByteLit) (fs : List Frame) (r : List Tok) (p : Places)
+    → run (seen (byte_token b ∷ r) p) (fs, frame.want_class) ≡ run (seen r (after p)) (fs, frame.have_byte (place_byte b p))
 reads_one (Code n) fs r p = refl
 reads_one (Quoted b s) fs r p = refl
 
-reads_last : (a b : ByteLit) (fs : List Frame) (r : List Tok) (p : Places) → run (seen (byte_token b ∷ r) p) (fs, frame.want_last a) ≡ run (seen r (after p)) (class_done fs (cls.Range a (place_byte b p) (joined (byte_span a) (next p))) 1)
+reads_last : (a b : ByteLit) (fs : List Frame) (r : List Tok) (p : Places)
+    → run (seen (byte_token b ∷ r) p) (fs, frame.want_last a)
+    ≡ run (seen r (after p)) (class_done fs (cls.Range a (place_byte b p) (joined (byte_span a) (next p))) 1)
 reads_last a (Code n) fs r p = refl
 reads_last a (Quoted b s) fs r p = refl
 
-joined_parts : (a b : cls.Cls) (p : Places) → joined (class_span (place_class a p).0) (class_span (place_class b (after (place_class a p).1)).0) ≡ between p (place_class b (after (place_class a p).1)).1
-joined_parts a b p = let e = class_span_placed a p in let f = class_span_placed b (after (place_class a p).1) in ap (λ s. joined s (class_span (place_class b (after (place_class a p).1)).0)) e ∙ ap (joined (between p (place_class a p).1)) f
+joined_parts : (a b : cls.Cls) (p : Places) → joined (class_span (place_class a p).0) (class_span (place_class b (after (place_class a p).1)).0)
+    ≡ between p (place_class b (after (place_class a p).1)).1
+joined_parts a b p = let e = class_span_placed a p in let f = class_span_placed b (after (place_class a p).1)
+    in ap (λ s. joined s (class_span (place_class b (after (place_class a p).1)).0)) e ∙ ap (joined (between p (place_class a p).1)) f
 
 -- a factor, in any place
 abbrev pub FactorReads : cls.Cls → Type 0
@@ -106,7 +115,8 @@ FactorReads c = (fs : List Frame) (r : List Tok) (p : Places) → NoDots r → r
 -- any class, where a `|` may go on with it
 abbrev pub ClassReads : cls.Cls → Type 0
 ClassReads c = (fs : List Frame) (r : List Tok) (p : Places) → IsClassHole fs → NoDots r
-    → run (seen (print_class c r) p) (fs, frame.want_class) ≡ run (seen r (place_class c p).1) (fs, frame.have_class (found_class (place_class c p).0 (class_depth c)))
+    → run (seen (print_class c r) p) (fs, frame.want_class)
+    ≡ run (seen r (place_class c p).1) (fs, frame.have_class (found_class (place_class c p).0 (class_depth c)))
 
 class_of_factor : (c : cls.Cls) → FactorReads c → ClassReads c
 class_of_factor c all fs r p hole h = all fs r p h ∙ ap (run (seen r (place_class c p).1)) (has_class fs (place_class c p).0 (class_depth c) hole)
@@ -118,12 +128,14 @@ range_reads : (a b : ByteLit) (s : Span) → FactorReads (cls.Range a b s)
 range_reads a b s fs r p h =
     reads_one a fs (k.Mark m.DotDot ∷ byte_token b ∷ r) p
     ∙ reads_last (place_byte a p) b fs r (after (after p))
-    ∙ ap (λ s. run (seen r (after (after (after p)))) (class_done fs (cls.Range (place_byte a p) (place_byte b (after (after p))) (joined s (next (after (after p))))) 1)) (byte_span_placed a p)
+    ∙ ap (λ s. run (seen r (after (after (after p)))) (class_done fs
+    (cls.Range (place_byte a p) (place_byte b (after (after p))) (joined s (next (after (after p))))) 1)) (byte_span_placed a p)
 
 other_reads : (c : cls.Cls) (s : Span) → FactorReads c → FactorReads (cls.Other c s)
 other_reads c s all fs r p h =
     all (frame.in_other (next p) ∷ fs) r (after p) h
-    ∙ ap (λ s. run (seen r (place_class c (after p)).1) (class_done fs (cls.Other (place_class c (after p)).0 (joined (next p) s)) (1 + class_depth c))) (class_span_placed c (after p))
+    ∙ ap (λ s. run (seen r (place_class c (after p)).1) (class_done fs (cls.Other (place_class c (after p)).0 (joined (next p) s)) (1 + class_depth c)))
+    (class_span_placed c (after p))
 
 grouped_reads : (c : cls.Cls) (s : Span) → ClassReads c → FactorReads (cls.Grouped c s)
 grouped_reads c s all fs r p h = all (frame.in_grouped (next p) ∷ fs) (k.Mark m.CloseParen ∷ r) (after p) tt tt
@@ -136,7 +148,10 @@ union_reads a b s all_a all_b fs r p hole h =
     let x = place_class a p in
     let y = place_class b (after x.1) in
     all_a fs (k.Mark m.Bar ∷ print_class b r) p hole tt
-    ∙ go (k.Mark m.Bar) (print_class b r) x.1 (fs, frame.have_class (found_class x.0 (class_depth a))) (frame.in_union (found_class x.0 (class_depth a)) ∷ fs, frame.want_class) (or_class fs (found_class x.0 (class_depth a)) (next x.1) hole)
+    ∙ go (k.Mark m.Bar) (print_class b r) x.1 (fs, frame.have_class (found_class x.0 (class_depth a))) (
+      frame.in_union (found_class x.0 (class_depth a)) ∷ fs,
+      frame.want_class,
+    ) (or_class fs (found_class x.0 (class_depth a)) (next x.1) hole)
     ∙ all_b (frame.in_union (found_class x.0 (class_depth a)) ∷ fs) r (after x.1) h
     ∙ ap (λ s. run (seen r y.1) (fs, frame.have_class (found_class (cls.Union x.0 y.0 s) (1 + max (class_depth a) (class_depth b))))) (joined_parts a b p)
 

@@ -6,7 +6,8 @@ use Rattle.ddl_tree.specs.ClassTree as cls
 use Rattle.ddl_tree.specs.ExprTree as ex
 use Rattle.ddl_tree.specs.ModuleTree as mo
 use Rattle.ddl_tree.specs.View.{exprs_of, bindings_of, items_of, alts_of}
-use Rattle.ddl_tree.specs.Depth.{type_depth, typed_depth, class_depth, depth, bound_depth, item_depth, exprs_depth, bindings_depth, items_depth, alts_depth, param_depth, params_depth, part_depth, parts_depth, bits_depth, cons_depth, decl_depth, decls_depth}
+use Rattle.ddl_tree.specs.Depth.{type_depth, typed_depth, class_depth, depth, bound_depth, item_depth, exprs_depth, bindings_depth, items_depth, alts_depth}
+use Rattle.ddl_tree.specs.Depth.{param_depth, params_depth, part_depth, parts_depth, bits_depth, cons_depth, decl_depth, decls_depth}
 use Rattle.ddl_reader.specs.Frames.{Frame, Focus, State, Found, FoundType, FoundClass, Head, Layout, Parted, Loop, Cases}
 use Rattle.ddl_reader.specs.Frames as frame
 use Rattle.ddl_reader.specs.Depths.{around, around_in, low, need_expr, lowest}
@@ -165,7 +166,8 @@ pub exprs_deep : (xs : List ex.Expr) (a : ex.Expr) → exprs_depth (exprs_of (xs
 exprs_deep [] a = omega arith
 exprs_deep (b ∷ xs) a = omega (arith, exprs_deep xs a)
 
-pub bindings_deep : (bs : List ex.Binding) (b : ex.Binding) → bindings_depth (bindings_of (bs ++ b ∷ [])) ≡ max (bindings_depth (bindings_of bs)) (depth b.value)
+pub bindings_deep : (bs : List ex.Binding) (b : ex.Binding)
+    → bindings_depth (bindings_of (bs ++ b ∷ [])) ≡ max (bindings_depth (bindings_of bs)) (depth b.value)
 bindings_deep [] b = omega arith
 bindings_deep (c ∷ bs) b = omega (arith, bindings_deep bs b)
 

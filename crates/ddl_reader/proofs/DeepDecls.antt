@@ -19,10 +19,14 @@ use Rattle.ddl_reader.specs.Frames.{Frame, State, Found, FoundType, FoundClass, 
 use Rattle.ddl_reader.specs.Frames as frame
 use Rattle.ddl_reader.specs.StepType.{joined, number_at}
 use Rattle.ddl_reader.specs.StepExpr.{name_at}
-use Rattle.ddl_reader.specs.StepDecl.{with_decl, with_import, begin_decl, begin_import, import_name, decl_name, with_param, param_with, param_name, param_colon_with, typed_param, after_param_type, after_result, decl_of, close_body, class_equals_with, close_class_body, after_class_body, bits_name, after_bits_name_with, open_cons_with, con_name, con_equals_with, con_of, bits_done, after_con_with, bit_pattern, bits_with, with_part, part_with, part_colon_with, part_of, after_part_with}
+use Rattle.ddl_reader.specs.StepDecl.{with_decl, with_import, begin_decl, begin_import, import_name, decl_name, with_param, param_with, param_name}
+use Rattle.ddl_reader.specs.StepDecl.{param_colon_with, typed_param, after_param_type, after_result, decl_of, close_body, class_equals_with, close_class_body}
+use Rattle.ddl_reader.specs.StepDecl.{after_class_body, bits_name, after_bits_name_with, open_cons_with, con_name, con_equals_with, con_of, bits_done}
+use Rattle.ddl_reader.specs.StepDecl.{after_con_with, bit_pattern, bits_with, with_part, part_with, part_colon_with, part_of, after_part_with}
 use Rattle.ddl_reader.specs.Depths.{layout_deep, low, lowest}
 use Rattle.ddl_reader.proofs.Fits.{wanted}
-use Rattle.ddl_reader.proofs.Deep.{IsDeep, IsDeepHead, IsDeepLayout, IsDeepParted, AreDeep, Goes, Deeps, weaken, low_grows, params_deep, parts_deep, cons_deep, decls_deep}
+use Rattle.ddl_reader.proofs.Deep.{IsDeep, IsDeepHead, IsDeepLayout, IsDeepParted, AreDeep, Goes, Deeps, weaken, low_grows, params_deep, parts_deep, cons_deep}
+use Rattle.ddl_reader.proofs.Deep.{decls_deep}
 
 -- ---- the module
 
@@ -74,10 +78,12 @@ decl_name_deep (k.Lower x) s from fs d = (d, refl, omega arith)
 decl_name_deep (k.Class x) s from fs d = (d, tt, omega arith)
 decl_name_deep _ s from fs d = tt
 
-with_param_deep : (h : Head) (p : mo.Param) (n : ℕ) (fs : List Frame) → AreDeep fs → IsDeepHead h → n ≡ param_depth p → Goes (low fs (max h.deep n)) (fs, frame.want_param (with_param h p n))
+with_param_deep : (h : Head) (p : mo.Param) (n : ℕ) (fs : List Frame) → AreDeep fs → IsDeepHead h → n ≡ param_depth p
+    → Goes (low fs (max h.deep n)) (fs, frame.want_param (with_param h p n))
 with_param_deep h p n fs d i e = (d, omega (arith, params_deep h.params p), low_grows fs (max h.deep n) (max (max h.deep n) 1) (omega arith))
 
-plain_param_deep : (h : Head) (p : mo.Param) (fs : List Frame) → AreDeep fs → IsDeepHead h → 0 ≡ param_depth p → Goes (low fs (max h.deep 1)) (fs, frame.want_param (with_param h p 0))
+plain_param_deep : (h : Head) (p : mo.Param) (fs : List Frame) → AreDeep fs → IsDeepHead h → 0 ≡ param_depth p
+    → Goes (low fs (max h.deep 1)) (fs, frame.want_param (with_param h p 0))
 plain_param_deep h p fs d i e = (d, omega (arith, params_deep h.params p), low_grows fs (max h.deep 1) (max (max h.deep 0) 1) (omega arith))
 
 pub param_deep : (x : Tok) (s : Span) (h : Head) (fs : List Frame) → AreDeep fs → IsDeepHead h → Deeps (low fs (max h.deep 1)) (param_with x s h fs)
@@ -89,12 +95,14 @@ param_deep (k.Mark m.Colon) s h fs d i = ((i, d), tt, omega arith)
 param_deep (k.Mark m.Equals) s h fs d i = (((i, refl), d), tt, omega arith)
 param_deep _ s h fs d i = tt
 
-pub param_name_deep : (x : Tok) (s : Span) (h : Head) (from : Span) (fs : List Frame) → AreDeep fs → IsDeepHead h → Deeps (low fs (max h.deep 1)) (param_name x s h from fs)
+pub param_name_deep : (x : Tok) (s : Span) (h : Head) (from : Span) (fs : List Frame) → AreDeep fs → IsDeepHead h
+    → Deeps (low fs (max h.deep 1)) (param_name x s h from fs)
 param_name_deep (k.Upper x) s h from fs d i = (d, i, omega arith)
 param_name_deep (k.Lower x) s h from fs d i = (d, i, omega arith)
 param_name_deep _ s h from fs d i = tt
 
-pub param_colon_deep : (x : Tok) (h : Head) (from : Span) (o : Sort) (y : Name) (fs : List Frame) → AreDeep fs → IsDeepHead h → Deeps (low fs (max h.deep 1)) (param_colon_with x h from o y fs)
+pub param_colon_deep : (x : Tok) (h : Head) (from : Span) (o : Sort) (y : Name) (fs : List Frame) → AreDeep fs → IsDeepHead h
+    → Deeps (low fs (max h.deep 1)) (param_colon_with x h from o y fs)
 param_colon_deep (k.Mark m.Colon) h from o y fs d i = ((i, d), tt, omega arith)
 param_colon_deep _ h from o y fs d i = tt
 
@@ -102,27 +110,33 @@ typed_param_deep : (o : Sort) (x : Name) (t : ty.TypeExpr) (s : Span) → param_
 typed_param_deep frame.of_grammar x t s = refl
 typed_param_deep frame.of_value x t s = refl
 
-pub after_param_type_deep : (x : Tok) (s : Span) (h : Head) (from : Span) (o : Sort) (y : Name) (t : FoundType) (fs : List Frame) → AreDeep fs → IsDeepHead h → t.deep ≡ type_depth t.type → Deeps (low fs (max h.deep t.deep)) (after_param_type x s h from o y t fs)
-after_param_type_deep (k.Mark m.CloseParen) s h from o y t fs d i e = with_param_deep h (typed_param o y t.type (joined from s)) t.deep fs d i (omega (arith, typed_param_deep o y t.type (joined from s)))
+pub after_param_type_deep : (x : Tok) (s : Span) (h : Head) (from : Span) (o : Sort) (y : Name) (t : FoundType) (fs : List Frame) → AreDeep fs → IsDeepHead h
+    → t.deep ≡ type_depth t.type → Deeps (low fs (max h.deep t.deep)) (after_param_type x s h from o y t fs)
+after_param_type_deep (k.Mark m.CloseParen) s h from o y t fs d i e =
+    with_param_deep h (typed_param o y t.type (joined from s)) t.deep fs d i (omega (arith, typed_param_deep o y t.type (joined from s)))
 after_param_type_deep _ s h from o y t fs d i e = tt
 
-pub after_result_deep : (x : Tok) (h : Head) (t : FoundType) (fs : List Frame) → AreDeep fs → IsDeepHead h → t.deep ≡ type_depth t.type → Deeps (low fs (max h.deep t.deep)) (after_result x h t fs)
+pub after_result_deep : (x : Tok) (h : Head) (t : FoundType) (fs : List Frame) → AreDeep fs → IsDeepHead h → t.deep ≡ type_depth t.type
+    → Deeps (low fs (max h.deep t.deep)) (after_result x h t fs)
 after_result_deep (k.Mark m.Equals) h t fs d i e = (((i, e), d), tt, low_grows fs (max h.deep t.deep) (max h.deep (max t.deep 1)) (omega arith))
 after_result_deep _ h t fs d i e = tt
 
-decl_of_deep : (h : Head) (t : Option ty.TypeExpr) (n : ℕ) (e : Found) (s : Span) → IsDeepHead h → n ≡ typed_depth t → IsDeep e → max h.deep (max n e.deep) ≡ decl_depth (decl_of h.sort h.name h.params t e s)
+decl_of_deep : (h : Head) (t : Option ty.TypeExpr) (n : ℕ) (e : Found) (s : Span) → IsDeepHead h → n ≡ typed_depth t → IsDeep e
+    → max h.deep (max n e.deep) ≡ decl_depth (decl_of h.sort h.name h.params t e s)
 decl_of_deep h t n e s i j g =
     elim h.sort as (λ o. max h.deep (max n e.deep) ≡ decl_depth (decl_of o h.name h.params t e s)) [
       | frame.of_grammar ↦ omega arith
       | frame.of_value ↦ omega arith
     ]
 
-pub close_body_deep : (h : Head) (t : Option ty.TypeExpr) (n : ℕ) (e : Found) (fs : List Frame) → AreDeep fs → wanted fs ≡ 4 → IsDeepHead h → n ≡ typed_depth t → IsDeep e → Declares (max h.deep (max n e.deep)) fs (close_body h t n e fs)
+pub close_body_deep : (h : Head) (t : Option ty.TypeExpr) (n : ℕ) (e : Found) (fs : List Frame) → AreDeep fs → wanted fs ≡ 4 → IsDeepHead h → n ≡ typed_depth t
+    → IsDeep e → Declares (max h.deep (max n e.deep)) fs (close_body h t n e fs)
 close_body_deep h t n e fs d w i j g =
     let s = joined h.from (expr_span e.expr) in
     with_decl_deep (decl_of h.sort h.name h.params t e s) (max h.deep (max n e.deep)) fs d w (decl_of_deep h t n e s i j g)
 
-pub after_body_deep : (x : Tok) (s : Span) (h : Head) (t : Option ty.TypeExpr) (n : ℕ) (e : Found) (fs : List Frame) → AreDeep fs → wanted fs ≡ 4 → IsDeepHead h → n ≡ typed_depth t → IsDeep e → Deeps (low fs (max h.deep (max n e.deep))) (begin_decl x s (close_body h t n e fs))
+pub after_body_deep : (x : Tok) (s : Span) (h : Head) (t : Option ty.TypeExpr) (n : ℕ) (e : Found) (fs : List Frame) → AreDeep fs → wanted fs ≡ 4 → IsDeepHead h
+    → n ≡ typed_depth t → IsDeep e → Deeps (low fs (max h.deep (max n e.deep))) (begin_decl x s (close_body h t n e fs))
 after_body_deep x s h t n e fs d w i j g =
     let c = close_body_deep h t n e fs d w i j g in
     let gs = close_body h t n e fs in
@@ -132,16 +146,19 @@ pub class_equals_deep : (x : Tok) (from : Span) (y : Name) (fs : List Frame) →
 class_equals_deep (k.Mark m.Equals) from y fs d = ((tt, d), tt, omega arith)
 class_equals_deep _ from y fs d = tt
 
-pub class_body_deep : (from : Span) (y : Name) (c : FoundClass) (fs : List Frame) → AreDeep fs → wanted fs ≡ 4 → c.deep ≡ class_depth c.class → Declares c.deep fs (close_class_body from y c fs)
+pub class_body_deep : (from : Span) (y : Name) (c : FoundClass) (fs : List Frame) → AreDeep fs → wanted fs ≡ 4 → c.deep ≡ class_depth c.class
+    → Declares c.deep fs (close_class_body from y c fs)
 class_body_deep from y c fs d w i = with_decl_deep (mo.ClassDef y c.class (joined from (class_span c.class))) c.deep fs d w i
 
-class_ends : (x : Tok) (s from : Span) (y : Name) (c : FoundClass) (fs : List Frame) → AreDeep fs → wanted fs ≡ 4 → c.deep ≡ class_depth c.class → Deeps (low fs c.deep) (begin_decl x s (close_class_body from y c fs))
+class_ends : (x : Tok) (s from : Span) (y : Name) (c : FoundClass) (fs : List Frame) → AreDeep fs → wanted fs ≡ 4 → c.deep ≡ class_depth c.class
+    → Deeps (low fs c.deep) (begin_decl x s (close_class_body from y c fs))
 class_ends x s from y c fs d w i =
     let e = class_body_deep from y c fs d w i in
     let gs = close_class_body from y c fs in
     weaken (low fs c.deep) (low gs 0) (begin_decl x s gs) e.most (begin_decl_deep x s gs e.frames)
 
-pub after_class_body_deep : (x : Tok) (s from : Span) (y : Name) (c : FoundClass) (fs : List Frame) → AreDeep fs → wanted fs ≡ 4 → c.deep ≡ class_depth c.class → Deeps (low fs c.deep) (after_class_body x s from y c fs)
+pub after_class_body_deep : (x : Tok) (s from : Span) (y : Name) (c : FoundClass) (fs : List Frame) → AreDeep fs → wanted fs ≡ 4 → c.deep ≡ class_depth c.class
+    → Deeps (low fs c.deep) (after_class_body x s from y c fs)
 after_class_body_deep (k.Mark m.Bar) s from y c fs d w i = ((i, (tt, d)), tt, low_grows fs c.deep (1 + max c.deep 1) (omega arith))
 after_class_body_deep x s from y c fs d w i = class_ends x s from y c fs d w i
 
@@ -160,15 +177,18 @@ pub open_cons_deep : (x : Tok) (from : Span) (y : Name) (fs : List Frame) → Ar
 open_cons_deep (k.Mark m.OpenBrace) from y fs d = (d, refl, omega arith)
 open_cons_deep _ from y fs d = tt
 
-pub con_name_deep : (x : Tok) (s from : Span) (y : Name) (cs : List mo.Con) (n : ℕ) (fs : List Frame) → AreDeep fs → n ≡ cons_depth cs → Deeps (low fs n) (con_name x s from y cs n fs)
+pub con_name_deep : (x : Tok) (s from : Span) (y : Name) (cs : List mo.Con) (n : ℕ) (fs : List Frame) → AreDeep fs → n ≡ cons_depth cs
+    → Deeps (low fs n) (con_name x s from y cs n fs)
 con_name_deep (k.Lower z) s from y cs n fs d h = (d, h, omega arith)
 con_name_deep _ s from y cs n fs d h = tt
 
-pub con_equals_deep : (x : Tok) (from : Span) (y : Name) (cs : List mo.Con) (n : ℕ) (z : Name) (fs : List Frame) → AreDeep fs → n ≡ cons_depth cs → Deeps (low fs n) (con_equals_with x from y cs n z fs)
+pub con_equals_deep : (x : Tok) (from : Span) (y : Name) (cs : List mo.Con) (n : ℕ) (z : Name) (fs : List Frame) → AreDeep fs → n ≡ cons_depth cs
+    → Deeps (low fs n) (con_equals_with x from y cs n z fs)
 con_equals_deep (k.Mark m.Equals) from y cs n z fs d h = (d, h, omega arith)
 con_equals_deep _ from y cs n z fs d h = tt
 
-pub bits_done_deep : (l : Layout) (b : mo.Bits) (n : ℕ) (fs : List Frame) → AreDeep fs → wanted fs ≡ 4 → IsDeepLayout l → n ≡ bits_depth b → Goes (low fs (max (layout_deep l) n)) (bits_done l b n fs)
+pub bits_done_deep : (l : Layout) (b : mo.Bits) (n : ℕ) (fs : List Frame) → AreDeep fs → wanted fs ≡ 4 → IsDeepLayout l → n ≡ bits_depth b
+    → Goes (low fs (max (layout_deep l) n)) (bits_done l b n fs)
 bits_done_deep (frame.of_decl from y) b n fs d w i e =
     let c = with_decl_deep (mo.BitsDef y b (joined from (bits_span b))) n fs d w e in
     let most = c.most in
@@ -177,7 +197,8 @@ bits_done_deep (frame.of_decl from y) b n fs d w i e =
 bits_done_deep (frame.of_con from y cs z a) b n fs d w i e = (d, omega (arith, cons_deep cs (con_of z b)), omega arith)
 
 -- and no deeper
-pub bits_done_least : (l : Layout) (b : mo.Bits) (n : ℕ) (fs : List Frame) → AreDeep fs → wanted fs ≡ 4 → n ≡ bits_depth b → lowest (bits_done l b n fs) ≤ low fs (max (layout_deep l) n)
+pub bits_done_least : (l : Layout) (b : mo.Bits) (n : ℕ) (fs : List Frame) → AreDeep fs → wanted fs ≡ 4 → n ≡ bits_depth b
+    → lowest (bits_done l b n fs) ≤ low fs (max (layout_deep l) n)
 bits_done_least (frame.of_decl from y) b n fs d w e =
     let c = with_decl_deep (mo.BitsDef y b (joined from (bits_span b))) n fs d w e in
     let least = c.least in
@@ -185,7 +206,8 @@ bits_done_least (frame.of_decl from y) b n fs d w e =
     omega arith
 bits_done_least (frame.of_con from y cs z a) b n fs d w e = omega arith
 
-pub after_con_deep : (x : Tok) (s from : Span) (y : Name) (cs : List mo.Con) (n : ℕ) (fs : List Frame) → AreDeep fs → wanted fs ≡ 4 → n ≡ cons_depth cs → Deeps (low fs n) (after_con_with x s from y cs n fs)
+pub after_con_deep : (x : Tok) (s from : Span) (y : Name) (cs : List mo.Con) (n : ℕ) (fs : List Frame) → AreDeep fs → wanted fs ≡ 4 → n ≡ cons_depth cs
+    → Deeps (low fs n) (after_con_with x s from y cs n fs)
 after_con_deep (k.Mark m.Semicolon) s from y cs n fs d w h = (d, h, omega arith)
 after_con_deep (k.Mark m.CloseBrace) s from y cs n fs d w h = let c = with_decl_deep (mo.BitsUnion y cs (joined from s)) n fs d w h in (c.frames, tt, c.most)
 after_con_deep _ s from y cs n fs d w h = tt
@@ -195,7 +217,8 @@ bit_pattern_deep n Decimal z d = tt
 bit_pattern_deep n Hexadecimal z d = d
 bit_pattern_deep n Binary z d = d
 
-pub bits_deep : (x : Tok) (s : Span) (l : Layout) (fs : List Frame) → AreDeep fs → wanted fs ≡ 4 → IsDeepLayout l → Deeps (low fs (layout_deep l)) (bits_with x s l fs)
+pub bits_deep : (x : Tok) (s : Span) (l : Layout) (fs : List Frame) → AreDeep fs → wanted fs ≡ 4 → IsDeepLayout l
+    → Deeps (low fs (layout_deep l)) (bits_with x s l fs)
 bits_deep (k.Number v b n) s l fs d w i =
     let z = bits_done l (mo.Exactly (number_at v b n s)) 0 fs in
     let g = bits_done_deep l (mo.Exactly (number_at v b n s)) 0 fs d w i refl in
@@ -206,10 +229,12 @@ bits_deep (k.Mark m.OpenBrace) s l fs d w i = (d, (i, refl), low_grows fs (layou
 bits_deep _ s l fs d w i = tt
 
 -- a part that has been read whole
-with_part_deep : (p : Parted) (a : mo.Part) (n : ℕ) (fs : List Frame) → AreDeep fs → IsDeepParted p → n ≡ part_depth a → Goes (low fs (max (layout_deep p.layout) (max p.deep n))) (fs, frame.after_part (with_part p a n))
+with_part_deep : (p : Parted) (a : mo.Part) (n : ℕ) (fs : List Frame) → AreDeep fs → IsDeepParted p → n ≡ part_depth a
+    → Goes (low fs (max (layout_deep p.layout) (max p.deep n))) (fs, frame.after_part (with_part p a n))
 with_part_deep p a n fs d i e = let h = i.1 in (d, (i.0, omega (arith, parts_deep p.parts a)), omega arith)
 
-pub part_deep : (x : Tok) (s : Span) (p : Parted) (fs : List Frame) → AreDeep fs → IsDeepParted p → Deeps (low fs (max (layout_deep p.layout) p.deep)) (part_with x s p fs)
+pub part_deep : (x : Tok) (s : Span) (p : Parted) (fs : List Frame) → AreDeep fs → IsDeepParted p
+    → Deeps (low fs (max (layout_deep p.layout) p.deep)) (part_with x s p fs)
 part_deep (k.Number v b n) s p fs d i =
     let g = with_part_deep p (mo.Fixed (number_at v b n s)) 0 fs d i refl in
     let same = low_grows fs (max (layout_deep p.layout) p.deep) (max (layout_deep p.layout) (max p.deep 0)) (omega arith) in
@@ -218,11 +243,13 @@ part_deep (k.Lower x) s p fs d i = (d, i, low_grows fs (max (layout_deep p.layou
 part_deep (k.Mark m.Underscore) s p fs d i = (d, i, low_grows fs (max (layout_deep p.layout) p.deep) (max (layout_deep p.layout) (max p.deep 1)) (omega arith))
 part_deep _ s p fs d i = tt
 
-pub part_colon_deep : (x : Tok) (p : Parted) (o : PartStart) (fs : List Frame) → AreDeep fs → IsDeepParted p → Deeps (low fs (max (layout_deep p.layout) (max p.deep 1))) (part_colon_with x p o fs)
+pub part_colon_deep : (x : Tok) (p : Parted) (o : PartStart) (fs : List Frame) → AreDeep fs → IsDeepParted p
+    → Deeps (low fs (max (layout_deep p.layout) (max p.deep 1))) (part_colon_with x p o fs)
 part_colon_deep (k.Mark m.Colon) p o fs d i = ((i, d), tt, omega arith)
 part_colon_deep _ p o fs d i = tt
 
-pub after_part_deep : (x : Tok) (s : Span) (p : Parted) (fs : List Frame) → AreDeep fs → wanted fs ≡ 4 → IsDeepParted p → Deeps (low fs (max (layout_deep p.layout) p.deep)) (after_part_with x s p fs)
+pub after_part_deep : (x : Tok) (s : Span) (p : Parted) (fs : List Frame) → AreDeep fs → wanted fs ≡ 4 → IsDeepParted p
+    → Deeps (low fs (max (layout_deep p.layout) p.deep)) (after_part_with x s p fs)
 after_part_deep (k.Mark m.Comma) s p fs d w i = (d, i, omega arith)
 after_part_deep (k.Mark m.CloseBrace) s p fs d w i = bits_done_deep p.layout (mo.Parts p.parts (joined p.from s)) p.deep fs d w i.0 i.1
 after_part_deep _ s p fs d w i = tt
@@ -232,10 +259,13 @@ part_of_deep (frame.named x) t = refl
 part_of_deep (frame.unnamed s) t = refl
 
 -- a type ends its part
-pub typed_part_deep : (p : Parted) (o : PartStart) (t : FoundType) (fs : List Frame) → AreDeep fs → IsDeepParted p → t.deep ≡ type_depth t.type → Goes (low fs (max (layout_deep p.layout) (max p.deep t.deep))) (fs, frame.after_part (with_part p (part_of o t.type) t.deep))
+pub typed_part_deep : (p : Parted) (o : PartStart) (t : FoundType) (fs : List Frame) → AreDeep fs → IsDeepParted p → t.deep ≡ type_depth t.type
+    → Goes (low fs (max (layout_deep p.layout) (max p.deep t.deep))) (fs, frame.after_part (with_part p (part_of o t.type) t.deep))
 typed_part_deep p o t fs d i e = with_part_deep p (part_of o t.type) t.deep fs d i (omega (arith, part_of_deep o t.type))
 
-pub after_typed_part_deep : (x : Tok) (s : Span) (p : Parted) (o : PartStart) (t : FoundType) (fs : List Frame) → AreDeep fs → wanted fs ≡ 4 → IsDeepParted p → t.deep ≡ type_depth t.type → Deeps (low fs (max (layout_deep p.layout) (max p.deep t.deep))) (after_part_with x s (with_part p (part_of o t.type) t.deep) fs)
+pub after_typed_part_deep : (x : Tok) (s : Span) (p : Parted) (o : PartStart) (t : FoundType) (fs : List Frame) → AreDeep fs → wanted fs ≡ 4 → IsDeepParted p
+    → t.deep ≡ type_depth t.type → Deeps (low fs (max (layout_deep p.layout) (max p.deep t.deep)))
+    (after_part_with x s (with_part p (part_of o t.type) t.deep) fs)
 after_typed_part_deep x s p o t fs d w i e =
     let q = with_part p (part_of o t.type) t.deep in
     let g = typed_part_deep p o t fs d i e in

@@ -15,7 +15,8 @@ use Rattle.ddl_tree.specs.Depth.{depth}
 use Rattle.ddl_reader.specs.Frames.{Frame, State, Found}
 use Rattle.ddl_reader.specs.Frames as frame
 use Rattle.ddl_reader.specs.StepType.{found, number_at}
-use Rattle.ddl_reader.specs.StepExpr.{least, name_at, if_within, begin_result, begin_let, close_array, begin_high, close_low, begin_word, begin_mark, begin, apply, if_above, infix_with, extend_word, extend_mark, extend, with_argument, closes}
+use Rattle.ddl_reader.specs.StepExpr.{least, name_at, if_within, begin_result, begin_let, close_array, begin_high, close_low, begin_word, begin_mark, begin}
+use Rattle.ddl_reader.specs.StepExpr.{apply, if_above, infix_with, extend_word, extend_mark, extend, with_argument, closes}
 use Rattle.ddl_reader.specs.Depths.{around_in, low, need_expr}
 use Rattle.ddl_reader.proofs.Deep.{IsDeep, IsDeepFrame, AreDeep, Goes, Deeps, weaken, tested_deep, low_grows, paren_most, need_least, exprs_deep}
 
@@ -100,8 +101,10 @@ begin_deep (k.Class x) s fs d = one_deep fs (ex.Class (name_at x s)) d refl
 -- ---- a token that goes on with an expression
 
 apply_deep : (x : Tok) (s : Span) (e : ex.Expr) (n : ℕ) (fs : List Frame) → AreDeep fs → n ≡ depth e → Deeps (low fs n) (apply x s (found e n) fs)
-apply_deep x s (ex.Upper y) n fs d h = weaken (low fs n) (low fs 2) (begin x s (frame.in_call_grammar y [] 0 ∷ fs)) (low_grows fs n 2 (omega arith)) (begin_deep x s (frame.in_call_grammar y [] 0 ∷ fs) (refl, d))
-apply_deep x s (ex.Lower y) n fs d h = weaken (low fs n) (low fs 2) (begin x s (frame.in_call_value y [] 0 ∷ fs)) (low_grows fs n 2 (omega arith)) (begin_deep x s (frame.in_call_value y [] 0 ∷ fs) (refl, d))
+apply_deep x s (ex.Upper y) n fs d h = weaken (low fs n) (low fs 2) (begin x s (frame.in_call_grammar y [] 0 ∷ fs)) (low_grows fs n 2 (omega arith))
+    (begin_deep x s (frame.in_call_grammar y [] 0 ∷ fs) (refl, d))
+apply_deep x s (ex.Lower y) n fs d h = weaken (low fs n) (low fs 2) (begin x s (frame.in_call_value y [] 0 ∷ fs)) (low_grows fs n 2 (omega arith))
+    (begin_deep x s (frame.in_call_value y [] 0 ∷ fs) (refl, d))
 apply_deep x s _ n fs d h = tt
 
 above_deep : (n : ℕ) (c : Found) (fs : List Frame) (z : State) → Goes (low fs c.deep) z → Deeps (low fs c.deep) (if_above n c z)
@@ -173,17 +176,21 @@ closes_deep (frame.in_optional o) a fs h i = record { tree = omega arith; around
 closes_deep _ a fs h i = tt
 
 -- another argument
-pub argument_deep : (f : Frame) (x : Tok) (s : Span) (a : Found) (fs : List Frame) → AreDeep (f ∷ fs) → IsDeep a → Deeps (low (f ∷ fs) a.deep) (option_and_then (λ g. begin x s (g ∷ fs)) (with_argument f a))
+pub argument_deep : (f : Frame) (x : Tok) (s : Span) (a : Found) (fs : List Frame) → AreDeep (f ∷ fs) → IsDeep a
+    → Deeps (low (f ∷ fs) a.deep) (option_and_then (λ g. begin x s (g ∷ fs)) (with_argument f a))
 argument_deep (frame.in_call_grammar y xs n) x s a fs d i =
     let g = frame.in_call_grammar y (xs ++ a.expr ∷ []) (max n a.deep) in
     let h = d.0 in
-    weaken (low fs (1 + max n a.deep)) (low fs (1 + max (max n a.deep) 1)) (begin x s (g ∷ fs)) (low_grows fs (1 + max n a.deep) (1 + max (max n a.deep) 1) (omega arith)) (begin_deep x s (g ∷ fs) (omega (arith, exprs_deep xs a.expr), d.1))
+    weaken (low fs (1 + max n a.deep)) (low fs (1 + max (max n a.deep) 1)) (begin x s (g ∷ fs))
+    (low_grows fs (1 + max n a.deep) (1 + max (max n a.deep) 1) (omega arith)) (begin_deep x s (g ∷ fs) (omega (arith, exprs_deep xs a.expr), d.1))
 argument_deep (frame.in_call_value y xs n) x s a fs d i =
     let g = frame.in_call_value y (xs ++ a.expr ∷ []) (max n a.deep) in
     let h = d.0 in
-    weaken (low fs (1 + max n a.deep)) (low fs (1 + max (max n a.deep) 1)) (begin x s (g ∷ fs)) (low_grows fs (1 + max n a.deep) (1 + max (max n a.deep) 1) (omega arith)) (begin_deep x s (g ∷ fs) (omega (arith, exprs_deep xs a.expr), d.1))
+    weaken (low fs (1 + max n a.deep)) (low fs (1 + max (max n a.deep) 1)) (begin x s (g ∷ fs))
+    (low_grows fs (1 + max n a.deep) (1 + max (max n a.deep) 1) (omega arith)) (begin_deep x s (g ∷ fs) (omega (arith, exprs_deep xs a.expr), d.1))
 argument_deep (frame.in_many r ex.Free n) x s a fs d i =
     let g = frame.in_many r (ex.Exactly a.expr) a.deep in
     let h = d.0 in
-    weaken (low fs (1 + max n a.deep)) (low fs (1 + max a.deep 1)) (begin x s (g ∷ fs)) (low_grows fs (1 + max n a.deep) (1 + max a.deep 1) (omega arith)) (begin_deep x s (g ∷ fs) (i, d.1))
+    weaken (low fs (1 + max n a.deep)) (low fs (1 + max a.deep 1)) (begin x s (g ∷ fs)) (low_grows fs (1 + max n a.deep) (1 + max a.deep 1) (omega arith))
+    (begin_deep x s (g ∷ fs) (i, d.1))
 argument_deep _ x s a fs d i = tt

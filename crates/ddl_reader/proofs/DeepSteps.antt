@@ -16,13 +16,24 @@ use Rattle.ddl_reader.specs.Depths.{around_in, low, need, lowest}
 use Rattle.ddl_reader.proofs.Fits.{wanted, AreFrames, IsFocus}
 use Rattle.ddl_reader.proofs.FineTypes.{class_done_fine}
 use Rattle.ddl_reader.proofs.Deep.{IsDeep, AreDeep, IsDeepFocus, Deeps, weaken, low_grows}
-use Rattle.ddl_reader.proofs.DeepTypes.{begin_type_deep, width_uint_deep, width_sint_deep, close_empty_deep, after_element_deep, after_map_value_deep, after_within_deep, class_done_deep, begin_class_deep, last_byte_deep, after_grouped_deep, after_class_set_deep}
+use Rattle.ddl_reader.proofs.DeepTypes.{begin_type_deep, width_uint_deep, width_sint_deep, close_empty_deep, after_element_deep, after_map_value_deep}
+use Rattle.ddl_reader.proofs.DeepTypes.{after_within_deep, class_done_deep, begin_class_deep, last_byte_deep, after_grouped_deep, after_class_set_deep}
 use Rattle.ddl_reader.proofs.DeepExprs.{begin_deep, extend_deep, ClosesDeep, closes_deep, argument_deep}
-use Rattle.ddl_reader.proofs.DeepParts.{after_paren_deep, after_paren_type_deep, after_high_deep, after_between_deep, after_condition_deep, after_then_deep, after_start_deep, after_for_list_deep, after_map_list_deep, open_for_deep, for_name_deep, for_equals_deep, open_map_deep, first_name_deep, after_first_deep, second_name_deep, in_deep, shape_deep, field_deep, after_set_deep, after_array_deep, first_field_deep, next_field_deep, record_equals_deep, after_field_deep, tag_name_deep, after_tag_deep, after_tagged_deep}
-use Rattle.ddl_reader.proofs.DeepLists.{open_block_deep, let_name_deep, item_equals_deep, after_item_deep, open_choice_deep, after_untagged_deep, want_tag_deep, tag_equals_deep, after_with_tags_deep, after_subject_deep, open_case_deep, pattern_deep, just_deep, tag_deep, arrow_deep, after_alt_deep}
-use Rattle.ddl_reader.proofs.DeepDecls.{begin_decl_deep, begin_import_deep, import_name_deep, decl_name_deep, param_deep, param_name_deep, param_colon_deep, after_param_type_deep, after_result_deep, after_body_deep, class_equals_deep, after_class_body_deep, bits_name_deep, after_bits_name_deep, open_cons_deep, con_name_deep, con_equals_deep, after_con_deep, bits_deep, part_deep, part_colon_deep, after_part_deep, after_typed_part_deep}
+use Rattle.ddl_reader.proofs.DeepParts.{after_paren_deep, after_paren_type_deep, after_high_deep, after_between_deep, after_condition_deep, after_then_deep}
+use Rattle.ddl_reader.proofs.DeepParts.{after_start_deep, after_for_list_deep, after_map_list_deep, open_for_deep, for_name_deep, for_equals_deep}
+use Rattle.ddl_reader.proofs.DeepParts.{open_map_deep, first_name_deep, after_first_deep, second_name_deep, in_deep, shape_deep, field_deep, after_set_deep}
+use Rattle.ddl_reader.proofs.DeepParts.{after_array_deep, first_field_deep, next_field_deep, record_equals_deep, after_field_deep, tag_name_deep}
+use Rattle.ddl_reader.proofs.DeepParts.{after_tag_deep, after_tagged_deep}
+use Rattle.ddl_reader.proofs.DeepLists.{open_block_deep, let_name_deep, item_equals_deep, after_item_deep, open_choice_deep, after_untagged_deep, want_tag_deep}
+use Rattle.ddl_reader.proofs.DeepLists.{tag_equals_deep, after_with_tags_deep, after_subject_deep, open_case_deep, pattern_deep, just_deep, tag_deep}
+use Rattle.ddl_reader.proofs.DeepLists.{arrow_deep, after_alt_deep}
+use Rattle.ddl_reader.proofs.DeepDecls.{begin_decl_deep, begin_import_deep, import_name_deep, decl_name_deep, param_deep, param_name_deep, param_colon_deep}
+use Rattle.ddl_reader.proofs.DeepDecls.{after_param_type_deep, after_result_deep, after_body_deep, class_equals_deep, after_class_body_deep, bits_name_deep}
+use Rattle.ddl_reader.proofs.DeepDecls.{after_bits_name_deep, open_cons_deep, con_name_deep, con_equals_deep, after_con_deep, bits_deep, part_deep}
+use Rattle.ddl_reader.proofs.DeepDecls.{part_colon_deep, after_part_deep, after_typed_part_deep}
 
-step_type_deep : (fs : List Frame) (t : FoundType) (x : Tok) (s : Span) → AreFrames fs → AreDeep fs → t.deep ≡ type_depth t.type → Deeps (low fs t.deep) (step_type fs t x s)
+step_type_deep : (fs : List Frame) (t : FoundType) (x : Tok) (s : Span) → AreFrames fs → AreDeep fs → t.deep ≡ type_depth t.type
+    → Deeps (low fs t.deep) (step_type fs t x s)
 step_type_deep [] t x s h d e = tt
 step_type_deep (frame.in_bracket from ∷ fs) t x s h d e = after_element_deep x s from t fs d.1 e
 step_type_deep (frame.in_map_value from u ∷ fs) t x s h d e = after_map_value_deep x s from u t fs d.1 d.0 e
@@ -33,7 +44,8 @@ step_type_deep (frame.in_result c ∷ fs) t x s h d e = after_result_deep x c t 
 step_type_deep (frame.in_part p o ∷ fs) t x s h d e = after_typed_part_deep x s p o t fs d.1 h.1 d.0 e
 step_type_deep (_ ∷ fs) t x s h d e = tt
 
-step_class_deep : (fs : List Frame) (c : FoundClass) (x : Tok) (s : Span) → AreFrames fs → AreDeep fs → c.deep ≡ class_depth c.class → Deeps (low fs c.deep) (step_class fs c x s)
+step_class_deep : (fs : List Frame) (c : FoundClass) (x : Tok) (s : Span) → AreFrames fs → AreDeep fs → c.deep ≡ class_depth c.class
+    → Deeps (low fs c.deep) (step_class fs c x s)
 step_class_deep [] c x s h d e = tt
 step_class_deep (frame.in_grouped from ∷ fs) c x s h d e = after_grouped_deep x s from c fs d.1 e
 step_class_deep (frame.in_class_set from ∷ fs) c x s h d e = after_class_set_deep x s from c fs d.1 e
@@ -41,11 +53,13 @@ step_class_deep (frame.in_set from ∷ fs) c x s h d e = after_set_deep x s from
 step_class_deep (frame.in_class_body from y ∷ fs) c x s h d e = after_class_body_deep x s from y c fs d.1 h.1 e
 step_class_deep (_ ∷ fs) c x s h d e = tt
 
-class_on_deep : (fs : List Frame) (f : Focus) (x : Tok) (s : Span) → AreFrames fs → AreDeep fs → IsDeepFocus f → Deeps (low fs (need fs f)) (class_on (fs, f) x s)
+class_on_deep : (fs : List Frame) (f : Focus) (x : Tok) (s : Span) → AreFrames fs → AreDeep fs → IsDeepFocus f
+    → Deeps (low fs (need fs f)) (class_on (fs, f) x s)
 class_on_deep fs (frame.have_class c) x s h d e = step_class_deep fs c x s h d e
 class_on_deep fs _ x s h d e = tt
 
-byte_goes_on : (fs : List Frame) (b : ByteLit) (x : Tok) (s : Span) → AreFrames fs → wanted fs ≡ 3 → AreDeep fs → Deeps (low fs 1) (class_on (class_done fs (cls.One b) 1) x s)
+byte_goes_on : (fs : List Frame) (b : ByteLit) (x : Tok) (s : Span) → AreFrames fs → wanted fs ≡ 3 → AreDeep fs
+    → Deeps (low fs 1) (class_on (class_done fs (cls.One b) 1) x s)
 byte_goes_on fs b x s h w d =
     let z = class_done fs (cls.One b) 1 in
     let f = class_done_fine fs (cls.One b) 1 h w tt (omega arith) in
@@ -56,7 +70,8 @@ step_byte_deep : (fs : List Frame) (b : ByteLit) (x : Tok) (s : Span) → AreFra
 step_byte_deep fs b (k.Mark m.DotDot) s h w d = (d, tt, omega arith)
 step_byte_deep fs b x s h w d = byte_goes_on fs b x s h w d
 
-passes_deep : (f : Frame) (x : Tok) (s : Span) (a : Found) (fs : List Frame) → AreFrames (f ∷ fs) → AreDeep (f ∷ fs) → IsDeep a → Deeps (low (f ∷ fs) a.deep) (passes f x s a fs)
+passes_deep : (f : Frame) (x : Tok) (s : Span) (a : Found) (fs : List Frame) → AreFrames (f ∷ fs) → AreDeep (f ∷ fs) → IsDeep a
+    → Deeps (low (f ∷ fs) a.deep) (passes f x s a fs)
 passes_deep (frame.in_paren from) x s a fs h d i = after_paren_deep x s from a fs d.1 i
 passes_deep (frame.in_at_most r from) x s a fs h d i = after_high_deep x s r from a fs d.1 i
 passes_deep (frame.in_between r from b) x s a fs h d i = after_between_deep x s r from b a fs d.1 d.0 i
@@ -77,10 +92,12 @@ passes_deep (frame.in_body c t n) x s a fs h d i = let b = d.0 in after_body_dee
 passes_deep _ x s a fs h d i = tt
 
 -- the form around takes the form that ends
-closed_deep : (f : Frame) (fs : List Frame) (a : Found) (o : Option Found) (on : Found → Option State) (other : Option State) → IfSome o (λ u. ClosesDeep f a u fs)
+closed_deep : (f : Frame) (fs : List Frame) (a : Found) (o : Option Found) (on : Found → Option State) (other : Option State)
+    → IfSome o (λ u. ClosesDeep f a u fs)
     → ((u : Found) → ClosesDeep f a u fs → Deeps (low fs u.deep) (on u)) → Deeps (low (f ∷ fs) a.deep) other → Deeps (low (f ∷ fs) a.deep) (closed o on other)
 closed_deep f fs a None on other h go stay = stay
-closed_deep f fs a (Some u) on other h go stay = let e = h.around in weaken (low (f ∷ fs) a.deep) (low fs u.deep) (on u) (low_grows fs (around_in f fs a.deep) u.deep (omega arith)) (go u h)
+closed_deep f fs a (Some u) on other h go stay = let e =
+    h.around in weaken (low (f ∷ fs) a.deep) (low fs u.deep) (on u) (low_grows fs (around_in f fs a.deep) u.deep (omega arith)) (go u h)
 
 step_have_deep : (fs : List Frame) (a : Found) (x : Tok) (s : Span) → AreFrames fs → AreDeep fs → IsDeep a → Deeps (low fs a.deep) (step_have fs a x s)
 step_have_deep [] a x s h d i =
@@ -90,7 +107,8 @@ step_have_deep [] a x s h d i =
     ]
 step_have_deep (f ∷ fs) a x s h d i =
     let n = low (f ∷ fs) a.deep in
-    elim (nat_le (hole f) (binds x)) as (λ b. Deeps n (cond b (extend x s a (f ∷ fs)) (cond (nat_eq (binds x) 16) (argue f x s a fs) (closed (closes f a) (λ u. step_have fs u x s) (passes f x s a fs))))) [
+    elim (nat_le (hole f) (binds x)) as (λ b. Deeps n (cond b (extend x s a (f ∷ fs))
+    (cond (nat_eq (binds x) 16) (argue f x s a fs) (closed (closes f a) (λ u. step_have fs u x s) (passes f x s a fs))))) [
       | true ↦ extend_deep x s a (f ∷ fs) d i
       | false ↦
           elim (nat_eq (binds x) 16) as (λ b. Deeps n (cond b (argue f x s a fs) (closed (closes f a) (λ u. step_have fs u x s) (passes f x s a fs)))) [
@@ -102,7 +120,8 @@ step_have_deep (f ∷ fs) a x s h d i =
     ]
 
 -- a token that the machine takes keeps the depths, and makes no module shallower
-pub step_deep : (f : Focus) (fs : List Frame) (x : Tok) (s : Span) → AreFrames fs → IsFocus fs f → AreDeep fs → IsDeepFocus f → Deeps (low fs (need fs f)) (step_at f fs x s)
+pub step_deep : (f : Focus) (fs : List Frame) (x : Tok) (s : Span) → AreFrames fs → IsFocus fs f → AreDeep fs → IsDeepFocus f
+    → Deeps (low fs (need fs f)) (step_at f fs x s)
 step_deep frame.at_import fs x s h i d e = begin_import_deep x s fs d
 step_deep frame.at_decl fs x s h i d e = begin_decl_deep x s fs d
 step_deep frame.want_type fs x s h i d e = begin_type_deep x s fs d

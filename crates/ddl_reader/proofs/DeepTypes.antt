@@ -15,7 +15,8 @@ use Rattle.ddl_tree.specs.ClassTree.{byte_span, class_span}
 use Rattle.ddl_tree.specs.Depth.{type_depth, class_depth}
 use Rattle.ddl_reader.specs.Frames.{Frame, FoundType, FoundClass, State}
 use Rattle.ddl_reader.specs.Frames as frame
-use Rattle.ddl_reader.specs.StepType.{joined, type_done, type_word, begin_type, width_uint, width_sint, close_empty, after_element, after_map_value, after_within, number_at}
+use Rattle.ddl_reader.specs.StepType.{joined, type_done, type_word, begin_type, width_uint, width_sint, close_empty, after_element, after_map_value}
+use Rattle.ddl_reader.specs.StepType.{after_within, number_at}
 use Rattle.ddl_reader.specs.StepClass.{class_done, begin_class, last_byte, after_grouped, after_class_set}
 use Rattle.ddl_reader.specs.Depths.{low, lowest}
 use Rattle.ddl_reader.proofs.Deep.{AreDeep, Goes, Deeps, low_grows}
@@ -65,16 +66,20 @@ pub close_empty_deep : (x : Tok) (s from : Span) (fs : List Frame) → AreDeep f
 close_empty_deep (k.Mark m.CloseBrace) s from fs d = type_done_deep fs (ty.Empty (joined from s)) 1 d refl
 close_empty_deep _ s from fs d = tt
 
-pub after_element_deep : (x : Tok) (s from : Span) (t : FoundType) (fs : List Frame) → AreDeep fs → t.deep ≡ type_depth t.type → Deeps (low fs (1 + t.deep)) (after_element x s from t fs)
+pub after_element_deep : (x : Tok) (s from : Span) (t : FoundType) (fs : List Frame) → AreDeep fs → t.deep ≡ type_depth t.type
+    → Deeps (low fs (1 + t.deep)) (after_element x s from t fs)
 after_element_deep (k.Mark m.CloseBracket) s from t fs d e = type_done_deep fs (ty.ArrayOf t.type (joined from s)) (1 + t.deep) d (omega arith)
 after_element_deep (k.Mark m.Arrow) s from t fs d e = ((e, d), tt, low_grows fs (1 + t.deep) (1 + max t.deep 1) (omega arith))
 after_element_deep _ s from t fs d e = tt
 
-pub after_map_value_deep : (x : Tok) (s from : Span) (t u : FoundType) (fs : List Frame) → AreDeep fs → t.deep ≡ type_depth t.type → u.deep ≡ type_depth u.type → Deeps (low fs (1 + max t.deep u.deep)) (after_map_value x s from t u fs)
-after_map_value_deep (k.Mark m.CloseBracket) s from t u fs d e h = type_done_deep fs (ty.MapOf t.type u.type (joined from s)) (1 + max t.deep u.deep) d (omega arith)
+pub after_map_value_deep : (x : Tok) (s from : Span) (t u : FoundType) (fs : List Frame) → AreDeep fs → t.deep ≡ type_depth t.type → u.deep ≡ type_depth u.type
+    → Deeps (low fs (1 + max t.deep u.deep)) (after_map_value x s from t u fs)
+after_map_value_deep (k.Mark m.CloseBracket) s from t u fs d e h =
+    type_done_deep fs (ty.MapOf t.type u.type (joined from s)) (1 + max t.deep u.deep) d (omega arith)
 after_map_value_deep _ s from t u fs d e h = tt
 
-pub after_within_deep : (x : Tok) (s from : Span) (t : FoundType) (fs : List Frame) → AreDeep fs → t.deep ≡ type_depth t.type → Deeps (low fs (1 + t.deep)) (after_within x s from t fs)
+pub after_within_deep : (x : Tok) (s from : Span) (t : FoundType) (fs : List Frame) → AreDeep fs → t.deep ≡ type_depth t.type
+    → Deeps (low fs (1 + t.deep)) (after_within x s from t fs)
 after_within_deep (k.Mark m.CloseParen) s from t fs d e = type_done_deep fs (ty.Within t.type (joined from s)) (1 + t.deep) d (omega arith)
 after_within_deep _ s from t fs d e = tt
 
@@ -107,12 +112,14 @@ last_byte_deep (k.Number v c n) s b fs d = class_done_deep fs (cls.Range b (Code
 last_byte_deep (k.Char c) s b fs d = class_done_deep fs (cls.Range b (Quoted c s) (joined (byte_span b) s)) 1 d refl
 last_byte_deep _ s b fs d = tt
 
-pub after_grouped_deep : (x : Tok) (s from : Span) (c : FoundClass) (fs : List Frame) → AreDeep fs → c.deep ≡ class_depth c.class → Deeps (low fs (1 + c.deep)) (after_grouped x s from c fs)
+pub after_grouped_deep : (x : Tok) (s from : Span) (c : FoundClass) (fs : List Frame) → AreDeep fs → c.deep ≡ class_depth c.class
+    → Deeps (low fs (1 + c.deep)) (after_grouped x s from c fs)
 after_grouped_deep (k.Mark m.CloseParen) s from c fs d e = class_done_deep fs (cls.Grouped c.class (joined from s)) (1 + c.deep) d (omega arith)
 after_grouped_deep (k.Mark m.Bar) s from c fs d e = ((e, (tt, d)), tt, low_grows fs (1 + c.deep) (1 + (1 + max c.deep 1)) (omega arith))
 after_grouped_deep _ s from c fs d e = tt
 
-pub after_class_set_deep : (x : Tok) (s from : Span) (c : FoundClass) (fs : List Frame) → AreDeep fs → c.deep ≡ class_depth c.class → Deeps (low fs (1 + c.deep)) (after_class_set x s from c fs)
+pub after_class_set_deep : (x : Tok) (s from : Span) (c : FoundClass) (fs : List Frame) → AreDeep fs → c.deep ≡ class_depth c.class
+    → Deeps (low fs (1 + c.deep)) (after_class_set x s from c fs)
 after_class_set_deep (k.Mark m.CloseBracket) s from c fs d e = class_done_deep fs (cls.Set c.class (joined from s)) (1 + c.deep) d (omega arith)
 after_class_set_deep (k.Mark m.Bar) s from c fs d e = ((e, (tt, d)), tt, low_grows fs (1 + c.deep) (1 + (1 + max c.deep 1)) (omega arith))
 after_class_set_deep _ s from c fs d e = tt

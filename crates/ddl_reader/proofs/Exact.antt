@@ -20,7 +20,8 @@ use Rattle.ddl_reader.specs.StepClass.{class_done}
 use Rattle.ddl_reader.specs.StepDecl.{close_body, close_class_body}
 use Rattle.ddl_reader.specs.StepExpr.{closes}
 use Rattle.ddl_reader.specs.Answers.{Begins, Unexpected}
-use Rattle.ddl_reader.specs.Step.{step_at, whole, finish_class, finish_class_at, finished, finish_body, finish_have, finish, goes, run, begun, parsed, reach, kinds, places, IsStuck}
+use Rattle.ddl_reader.specs.Step.{step_at, whole, finish_class, finish_class_at, finished, finish_body, finish_have, finish, goes, run, begun, parsed, reach}
+use Rattle.ddl_reader.specs.Step.{kinds, places, IsStuck}
 use Rattle.ddl_reader.specs.Depths.{lowest}
 use Rattle.ddl_reader.proofs.Before.{read, here, text}
 use Rattle.ddl_reader.proofs.Tokens.{seen}
@@ -50,7 +51,8 @@ whole_ends [] a h e = cc
 whole_ends (frame.in_module b n ∷ f ∷ fs) a h e = cc
 whole_ends (_ ∷ fs) a h e = cc
 
-class_ends : (fs : List Frame) (c : FoundClass) (a : mo.Module) → AreFrames fs → IsClass c.class → finish_class fs c ≡ Some a → Ends a (read fs (print_class c.class []))
+class_ends : (fs : List Frame) (c : FoundClass) (a : mo.Module) → AreFrames fs → IsClass c.class → finish_class fs c ≡ Some a
+    → Ends a (read fs (print_class c.class []))
 class_ends (frame.in_class_body s y ∷ fs) c a h i e =
     let g = class_body_fine s y c fs h.4 h.1 i in
     let w = whole_ends (close_class_body s y c fs) a g.1 e in
@@ -62,26 +64,31 @@ class_ends_at : (fs : List Frame) (f : Focus) (a : mo.Module) → AreFrames fs �
 class_ends_at fs (frame.have_class c) a h i e = class_ends fs c a h i.0 e
 class_ends_at fs _ a h i e = cc
 
-body_ends : (f : Frame) (fs : List Frame) (x : Found) (a : mo.Module) → AreFrames (f ∷ fs) → IsExpr x.expr → finish_body f x fs ≡ Some a → Ends a (read (f ∷ fs) (print x.expr []))
+body_ends : (f : Frame) (fs : List Frame) (x : Found) (a : mo.Module) → AreFrames (f ∷ fs) → IsExpr x.expr → finish_body f x fs ≡ Some a
+    → Ends a (read (f ∷ fs) (print x.expr []))
 body_ends (frame.in_body d t n) fs x a h i e =
     let g = close_body_fine d t n x fs h.4 h.1 i in
     let w = whole_ends (close_body d t n x fs) a g.1 e in
     record { tree = w.tree; text = w.text ∙ g.0 [] }
 body_ends _ fs x a h i e = cc
 
-finished_ends : (f : Frame) (fs : List Frame) (x : Found) (a : mo.Module) (o : Option Found) (on : Found → Option mo.Module) (other : Option mo.Module) → IfSome o (λ u. Closes f x u)
-    → ((u : Found) → Closes f x u → on u ≡ Some a → Ends a (read fs (print u.expr []))) → (other ≡ Some a → Ends a (read (f ∷ fs) (print x.expr []))) → finished o on other ≡ Some a → Ends a (read (f ∷ fs) (print x.expr []))
+finished_ends : (f : Frame) (fs : List Frame) (x : Found) (a : mo.Module) (o : Option Found) (on : Found → Option mo.Module) (other : Option mo.Module)
+    → IfSome o (λ u. Closes f x u)
+    → ((u : Found) → Closes f x u → on u ≡ Some a → Ends a (read fs (print u.expr []))) → (other ≡ Some a → Ends a (read (f ∷ fs) (print x.expr [])))
+    → finished o on other ≡ Some a → Ends a (read (f ∷ fs) (print x.expr []))
 finished_ends f fs x a None on other h go stay e = stay e
 finished_ends f fs x a (Some u) on other h go stay e = let w = go u h e in record { tree = w.tree; text = w.text ∙ ap (read fs) (h.text []) }
 
-have_ends : (fs : List Frame) (x : Found) (a : mo.Module) → AreFrames fs → IsFocus fs (frame.have x) → finish_have fs x ≡ Some a → Ends a (read fs (print x.expr []))
+have_ends : (fs : List Frame) (x : Found) (a : mo.Module) → AreFrames fs → IsFocus fs (frame.have x) → finish_have fs x ≡ Some a
+    → Ends a (read fs (print x.expr []))
 have_ends [] x a h i e = cc
 have_ends (f ∷ fs) x a h i e =
     finished_ends f fs x a (closes f x) (λ u. finish_have fs u) (finish_body f x fs) (closes_fine f x h.0 i.0 i.2)
     (λ u c e. have_ends fs u a h.4 (c.tree, h.1 ∙ c.kind, let at = c.at in let reach = h.2 in omega arith) e)
     (λ e. body_ends f fs x a h i.0 e) e
 
-byte_ends : (fs : List Frame) (b : ByteLit) (a : mo.Module) → AreFrames fs → wanted fs ≡ 3 → finish_class_at (class_done fs (cls.One b) 1) ≡ Some a → Ends a (read fs (byte_token b ∷ []))
+byte_ends : (fs : List Frame) (b : ByteLit) (a : mo.Module) → AreFrames fs → wanted fs ≡ 3 → finish_class_at (class_done fs (cls.One b) 1) ≡ Some a
+    → Ends a (read fs (byte_token b ∷ []))
 byte_ends fs b a h w e =
     let g = class_done_fine fs (cls.One b) 1 h w tt (omega arith) in
     let z = class_done fs (cls.One b) 1 in
@@ -99,7 +106,8 @@ ends_well _ fs a h i e = cc
 -- ---- what is read is a module
 
 sound_step : (x : Seen) (xs : List Seen) (z : State) (a : mo.Module) (o : Option State) → Steps z.0 z.1 x.kind o
-    → ((y : State) → AreFrames y.0 → IsFocus y.0 y.1 → run xs y ≡ Some a → Ends a (text y (kinds xs))) → goes (run xs) o ≡ Some a → Ends a (text z (x.kind ∷ kinds xs))
+    → ((y : State) → AreFrames y.0 → IsFocus y.0 y.1 → run xs y ≡ Some a → Ends a (text y (kinds xs))) → goes (run xs) o ≡ Some a
+    → Ends a (text z (x.kind ∷ kinds xs))
 sound_step x xs z a None s go e = cc
 sound_step x xs z a (Some y) s go e = let w = go y s.1 s.2 e in record { tree = w.tree; text = w.text ∙ s.0 (kinds xs) }
 
@@ -143,7 +151,8 @@ pub record Reached (xs : List Seen) (z y : State) : Type 0 where
   pub text : (r : List Tok) → read y.0 (here y.1 r) ≡ read z.0 (here z.1 (kinds xs ++ r))
 
 reached_step : (x : Seen) (xs : List Seen) (z y : State) (o : Option State) → Steps z.0 z.1 x.kind o → Deeps (lowest z) o
-    → ((v : State) → AreFrames v.0 → IsFocus v.0 v.1 → AreDeep v.0 → IsDeepFocus v.1 → reach xs v ≡ Some y → Reached xs v y) → option_and_then (reach xs) o ≡ Some y → Reached (x ∷ xs) z y
+    → ((v : State) → AreFrames v.0 → IsFocus v.0 v.1 → AreDeep v.0 → IsDeepFocus v.1 → reach xs v ≡ Some y → Reached xs v y)
+    → option_and_then (reach xs) o ≡ Some y → Reached (x ∷ xs) z y
 reached_step x xs z y None s d go e = cc
 reached_step x xs z y (Some v) s d go e =
     let w = go v s.1 s.2 d.0 d.1 e in
@@ -163,7 +172,8 @@ reached [] z y h i d g e =
       text = λ r. ap (λ y. read y.0 (here y.1 r)) (sym same);
     }
 reached (x ∷ xs) z y h i d g e =
-    reached_step x xs z y (step_at z.1 z.0 x.kind x.at) (step_fine z.1 z.0 x.kind x.at h i) (step_deep z.1 z.0 x.kind x.at h i d g) (λ v h i d g e. reached xs v y h i d g e) e
+    reached_step x xs z y (step_at z.1 z.0 x.kind x.at) (step_fine z.1 z.0 x.kind x.at h i) (step_deep z.1 z.0 x.kind x.at h i d g) (λ v h i d g e.
+    reached xs v y h i d g e) e
 
 pub reached_begun : (used : List Seen) (y : State) → reach used begun ≡ Some y → Reached used begun y
 reached_begun used y e = reached used begun y begun_frames begun_focus begun_deep tt e
@@ -175,7 +185,8 @@ begins_at used y e =
     let c = complete y.1 y.0 w.frames w.focus w.deep w.deep_focus in
     (c.0, c.1, c.2, c.3 ∙ w.text c.1)
 
-run_reach_step : (x : Seen) (xs more : List Seen) (y : State) (o : Option State) → ((v : State) → reach xs v ≡ Some y → run (xs ++ more) v ≡ run more y) → option_and_then (reach xs) o ≡ Some y → goes (run (xs ++ more)) o ≡ run more y
+run_reach_step : (x : Seen) (xs more : List Seen) (y : State) (o : Option State) → ((v : State) → reach xs v ≡ Some y → run (xs ++ more) v ≡ run more y)
+    → option_and_then (reach xs) o ≡ Some y → goes (run (xs ++ more)) o ≡ run more y
 run_reach_step x xs more y None go e = cc
 run_reach_step x xs more y (Some v) go e = go v e
 
@@ -195,11 +206,13 @@ no_module : (a : mo.Module) → None ≡ Some a → ⊥
 no_module a e = cc
 
 -- where the machine takes no token, no module goes on so
-pub stops_at : (used : List Seen) (x : Seen) (y : State) → reach used begun ≡ Some y → step_at y.1 y.0 x.kind x.at ≡ None → Begins (kinds used ++ x.kind ∷ []) → ⊥
+pub stops_at : (used : List Seen) (x : Seen) (y : State) → reach used begun ≡ Some y → step_at y.1 y.0 x.kind x.at ≡ None → Begins (kinds used ++ x.kind ∷ [])
+    → ⊥
 stops_at used x y way stuck b =
     let tail = seen b.1 (record { last = nowhere; rest = [] }) in
     let all = used ++ x ∷ tail in
-    let same : print_module b.0 ≡ kinds all = b.3 ∙ append_assoc (kinds used) (x.kind ∷ []) b.1 ∙ ap (λ ks. kinds used ++ x.kind ∷ ks) (sym (kinds_seen b.1 (record { last = nowhere; rest = [] }))) ∙ sym (kinds_more used (x ∷ tail)) in
+    let same : print_module b.0 ≡ kinds all = b.3 ∙ append_assoc (kinds used) (x.kind ∷ []) b.1
+    ∙ ap (λ ks. kinds used ++ x.kind ∷ ks) (sym (kinds_seen b.1 (record { last = nowhere; rest = [] }))) ∙ sym (kinds_more used (x ∷ tail)) in
     no_module (placed b.0 (places all)) (sym (ap (goes (run tail)) stuck) ∙ sym (run_reach used (x ∷ tail) begun y way) ∙ reads_all all b.0 b.2 same)
 
 append_none : (xs : List Seen) → xs ++ [] ≡ xs
@@ -208,7 +221,8 @@ append_none (x ∷ xs) = ap (λ ys. x ∷ ys) (append_none xs)
 
 -- where the machine does not end, the tokens are those of no module
 pub ends_at : (xs : List Seen) (y : State) → reach xs begun ≡ Some y → finish y.1 y.0 ≡ None → (a : mo.Module) → IsModule a → print_module a ≢ kinds xs
-ends_at xs y way stuck a i = λ e. no_module (placed a (places xs)) (sym stuck ∙ sym (run_reach xs [] begun y way) ∙ ap (λ ys. run ys begun) (append_none xs) ∙ reads_all xs a i e)
+ends_at xs y way stuck a i = λ e. no_module (placed a (places xs)) (sym stuck ∙ sym (run_reach xs [] begun y way) ∙ ap (λ ys. run ys begun) (append_none xs)
+    ∙ reads_all xs a i e)
 
 -- it reads each module that stands at these places
 pub reads_each : (xs : List Seen) (a : mo.Module) → IsModule a → print_module a ≡ kinds xs → StandsAt a (places xs) → parsed xs ≡ Some a

@@ -52,11 +52,13 @@ chain : parsed (main_is (x 11 12 ∷ token (k.Mark m.EqualEqual) 13 15 ∷ x 16 
 chain = refl
 
 -- a block whose last part is empty
-trailing : parsed (main_is (token (k.Word w.Block) 11 16 ∷ token (k.Mark m.OpenBrace) 16 17 ∷ x 17 18 ∷ token (k.Mark m.Semicolon) 18 19 ∷ token (k.Mark m.CloseBrace) 19 20 ∷ [])) ≡ None
+trailing : parsed (main_is (token (k.Word w.Block) 11 16 ∷ token (k.Mark m.OpenBrace) 16 17 ∷ x 17 18 ∷ token (k.Mark m.Semicolon) 18 19
+    ∷ token (k.Mark m.CloseBrace) 19 20 ∷ [])) ≡ None
 trailing = refl
 
 -- an alternative with a tag, and one without
-mixed : parsed (main_is (token (k.Word w.First) 11 16 ∷ token (k.Mark m.OpenBrace) 16 17 ∷ x 17 18 ∷ token (k.Mark m.Equals) 18 19 ∷ x 19 20 ∷ token (k.Mark m.Semicolon) 20 21 ∷ x 21 22 ∷ token (k.Mark m.CloseBrace) 22 23 ∷ [])) ≡ None
+mixed : parsed (main_is (token (k.Word w.First) 11 16 ∷ token (k.Mark m.OpenBrace) 16 17 ∷ x 17 18 ∷ token (k.Mark m.Equals) 18 19 ∷ x 19 20
+    ∷ token (k.Mark m.Semicolon) 20 21 ∷ x 21 22 ∷ token (k.Mark m.CloseBrace) 22 23 ∷ [])) ≡ None
 mixed = refl
 
 -- ---- the depth of the shallowest module that begins so

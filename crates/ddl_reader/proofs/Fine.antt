@@ -16,11 +16,21 @@ use Rattle.ddl_reader.specs.StepExpr.{extend, closes}
 use Rattle.ddl_reader.specs.Step.{step_type, step_class, class_on, step_byte, passes, argue, closed, step_have, step_at}
 use Rattle.ddl_reader.proofs.Before.{read}
 use Rattle.ddl_reader.proofs.Fits.{wanted, AreFrames, IsFocus, Steps, shift, le_of}
-use Rattle.ddl_reader.proofs.FineTypes.{begin_type_fine, width_uint_fine, width_sint_fine, close_empty_fine, after_element_fine, after_map_value_fine, after_within_fine, class_done_fine, begin_class_fine, last_byte_fine, after_grouped_fine, after_class_set_fine}
+use Rattle.ddl_reader.proofs.FineTypes.{begin_type_fine, width_uint_fine, width_sint_fine, close_empty_fine, after_element_fine, after_map_value_fine}
+use Rattle.ddl_reader.proofs.FineTypes.{after_within_fine, class_done_fine, begin_class_fine, last_byte_fine, after_grouped_fine, after_class_set_fine}
 use Rattle.ddl_reader.proofs.FineExprs.{begin_fine, extend_fine, Closes, closes_fine, argument_fine}
-use Rattle.ddl_reader.proofs.FineParts.{after_paren_fine, after_paren_type_fine, after_high_fine, after_between_fine, after_condition_fine, after_then_fine, after_start_fine, after_for_list_fine, after_map_list_fine, open_for_fine, for_name_fine, for_equals_fine, open_map_fine, first_name_fine, after_first_fine, second_name_fine, in_fine, shape_fine, field_fine, after_set_fine, after_array_fine, first_field_fine, next_field_fine, record_equals_fine, after_field_fine, tag_name_fine, after_tag_fine, after_tagged_fine}
-use Rattle.ddl_reader.proofs.FineLists.{open_block_fine, let_name_fine, item_equals_fine, after_item_fine, open_choice_fine, after_untagged_fine, want_tag_fine, tag_equals_fine, after_with_tags_fine, after_subject_fine, open_case_fine, pattern_fine, just_fine, tag_fine, arrow_fine, after_alt_fine}
-use Rattle.ddl_reader.proofs.FineDecls.{begin_decl_fine, begin_import_fine, import_name_fine, decl_name_fine, param_fine, param_name_fine, param_colon_fine, after_param_type_fine, after_result_fine, after_body_fine, class_equals_fine, after_class_body_fine, bits_name_fine, after_bits_name_fine, open_cons_fine, con_name_fine, con_equals_fine, after_con_fine, bits_fine, part_fine, part_colon_fine, after_part_fine, after_typed_part_fine}
+use Rattle.ddl_reader.proofs.FineParts.{after_paren_fine, after_paren_type_fine, after_high_fine, after_between_fine, after_condition_fine, after_then_fine}
+use Rattle.ddl_reader.proofs.FineParts.{after_start_fine, after_for_list_fine, after_map_list_fine, open_for_fine, for_name_fine, for_equals_fine}
+use Rattle.ddl_reader.proofs.FineParts.{open_map_fine, first_name_fine, after_first_fine, second_name_fine, in_fine, shape_fine, field_fine, after_set_fine}
+use Rattle.ddl_reader.proofs.FineParts.{after_array_fine, first_field_fine, next_field_fine, record_equals_fine, after_field_fine, tag_name_fine}
+use Rattle.ddl_reader.proofs.FineParts.{after_tag_fine, after_tagged_fine}
+use Rattle.ddl_reader.proofs.FineLists.{open_block_fine, let_name_fine, item_equals_fine, after_item_fine, open_choice_fine, after_untagged_fine, want_tag_fine}
+use Rattle.ddl_reader.proofs.FineLists.{tag_equals_fine, after_with_tags_fine, after_subject_fine, open_case_fine, pattern_fine, just_fine, tag_fine}
+use Rattle.ddl_reader.proofs.FineLists.{arrow_fine, after_alt_fine}
+use Rattle.ddl_reader.proofs.FineDecls.{begin_decl_fine, begin_import_fine, import_name_fine, decl_name_fine, param_fine, param_name_fine, param_colon_fine}
+use Rattle.ddl_reader.proofs.FineDecls.{after_param_type_fine, after_result_fine, after_body_fine, class_equals_fine, after_class_body_fine, bits_name_fine}
+use Rattle.ddl_reader.proofs.FineDecls.{after_bits_name_fine, open_cons_fine, con_name_fine, con_equals_fine, after_con_fine, bits_fine, part_fine}
+use Rattle.ddl_reader.proofs.FineDecls.{part_colon_fine, after_part_fine, after_typed_part_fine}
 
 step_type_fine : (fs : List Frame) (t : FoundType) (x : Tok) (s : Span) → AreFrames fs → Steps fs (frame.have_type t) x (step_type fs t x s)
 step_type_fine [] t x s h = tt
@@ -33,7 +43,8 @@ step_type_fine (frame.in_result d ∷ fs) t x s h = after_result_fine x d t fs h
 step_type_fine (frame.in_part p o ∷ fs) t x s h = after_typed_part_fine x s p o t fs h
 step_type_fine (_ ∷ fs) t x s h = tt
 
-step_class_fine : (fs : List Frame) (c : FoundClass) (x : Tok) (s : Span) → AreFrames fs → IsClass c.class → Steps fs (frame.have_class c) x (step_class fs c x s)
+step_class_fine : (fs : List Frame) (c : FoundClass) (x : Tok) (s : Span) → AreFrames fs → IsClass c.class
+    → Steps fs (frame.have_class c) x (step_class fs c x s)
 step_class_fine [] c x s h i = tt
 step_class_fine (frame.in_grouped from ∷ fs) c x s h i = after_grouped_fine x s from c fs h i
 step_class_fine (frame.in_class_set from ∷ fs) c x s h i = after_class_set_fine x s from c fs h i
@@ -45,7 +56,8 @@ class_on_fine : (fs : List Frame) (f : Focus) (x : Tok) (s : Span) → AreFrames
 class_on_fine fs (frame.have_class c) x s h i = step_class_fine fs c x s h i.0
 class_on_fine fs _ x s h i = tt
 
-byte_goes_on : (fs : List Frame) (b : ByteLit) (x : Tok) (s : Span) → AreFrames fs → wanted fs ≡ 3 → Steps fs (frame.have_byte b) x (class_on (class_done fs (cls.One b) 1) x s)
+byte_goes_on : (fs : List Frame) (b : ByteLit) (x : Tok) (s : Span) → AreFrames fs → wanted fs ≡ 3
+    → Steps fs (frame.have_byte b) x (class_on (class_done fs (cls.One b) 1) x s)
 byte_goes_on fs b x s h w =
     let z = class_done fs (cls.One b) 1 in
     let g = class_done_fine fs (cls.One b) 1 h w tt (omega arith) in
@@ -55,7 +67,8 @@ step_byte_fine : (fs : List Frame) (b : ByteLit) (x : Tok) (s : Span) → AreFra
 step_byte_fine fs b (k.Mark m.DotDot) s h w = ((λ r. refl), h, w)
 step_byte_fine fs b x s h w = byte_goes_on fs b x s h w
 
-passes_fine : (f : Frame) (x : Tok) (s : Span) (a : Found) (fs : List Frame) → AreFrames (f ∷ fs) → IsExpr a.expr → Steps (f ∷ fs) (frame.have a) x (passes f x s a fs)
+passes_fine : (f : Frame) (x : Tok) (s : Span) (a : Found) (fs : List Frame) → AreFrames (f ∷ fs) → IsExpr a.expr
+    → Steps (f ∷ fs) (frame.have a) x (passes f x s a fs)
 passes_fine (frame.in_paren from) x s a fs h i = after_paren_fine x s from a fs h.4 h.1 i
 passes_fine (frame.in_at_most o from) x s a fs h i = after_high_fine x s o from a fs h i
 passes_fine (frame.in_between o from b) x s a fs h i = after_between_fine x s o from b a fs h i
@@ -76,18 +89,23 @@ passes_fine (frame.in_body d t n) x s a fs h i = after_body_fine x s d t n a fs 
 passes_fine _ x s a fs h i = tt
 
 -- the form around takes the form that ends
-closed_fine : (f : Frame) (fs : List Frame) (a : Found) (x : Tok) (o : Option Found) (on : Found → Option State) (other : Option State) → IfSome o (λ u. Closes f a u)
-    → ((u : Found) → Closes f a u → Steps fs (frame.have u) x (on u)) → Steps (f ∷ fs) (frame.have a) x other → Steps (f ∷ fs) (frame.have a) x (closed o on other)
+closed_fine : (f : Frame) (fs : List Frame) (a : Found) (x : Tok) (o : Option Found) (on : Found → Option State) (other : Option State)
+    → IfSome o (λ u. Closes f a u)
+    → ((u : Found) → Closes f a u → Steps fs (frame.have u) x (on u)) → Steps (f ∷ fs) (frame.have a) x other
+    → Steps (f ∷ fs) (frame.have a) x (closed o on other)
 closed_fine f fs a x None on other h go stay = stay
 closed_fine f fs a x (Some u) on other h go stay = shift fs (f ∷ fs) (frame.have u) (frame.have a) x (on u) (λ r. ap (read fs) (h.text (x ∷ r))) (go u h)
 
 step_have_fine : (fs : List Frame) (a : Found) (x : Tok) (s : Span) → AreFrames fs → IsFocus fs (frame.have a) → Steps fs (frame.have a) x (step_have fs a x s)
 step_have_fine [] a x s h i = let w = i.1 in absurd (omega arith)
 step_have_fine (f ∷ fs) a x s h i =
-    elim (nat_le (hole f) (binds x)) as (λ b. nat_le (hole f) (binds x) ≡ b → Steps (f ∷ fs) (frame.have a) x (cond b (extend x s a (f ∷ fs)) (cond (nat_eq (binds x) 16) (argue f x s a fs) (closed (closes f a) (λ u. step_have fs u x s) (passes f x s a fs))))) [
+    elim (nat_le (hole f) (binds x)) as (λ b. nat_le (hole f) (binds x) ≡ b
+    → Steps (f ∷ fs) (frame.have a) x (cond b (extend x s a (f ∷ fs))
+    (cond (nat_eq (binds x) 16) (argue f x s a fs) (closed (closes f a) (λ u. step_have fs u x s) (passes f x s a fs))))) [
       | true ↦ λ e. extend_fine x s a (f ∷ fs) h i.1 i.0 (le_of (hole f) (binds x) e)
       | false ↦ λ _.
-          elim (nat_eq (binds x) 16) as (λ b. Steps (f ∷ fs) (frame.have a) x (cond b (argue f x s a fs) (closed (closes f a) (λ u. step_have fs u x s) (passes f x s a fs)))) [
+          elim (nat_eq (binds x) 16) as (λ b. Steps (f ∷ fs) (frame.have a) x
+          (cond b (argue f x s a fs) (closed (closes f a) (λ u. step_have fs u x s) (passes f x s a fs)))) [
             | true ↦ argument_fine f x s a fs h i.0 i.2
             | false ↦ closed_fine f fs a x (closes f a) (λ u. step_have fs u x s) (passes f x s a fs) (closes_fine f a h.0 i.0 i.2)
                 (λ u c. step_have_fine fs u x s h.4 (c.tree, h.1 ∙ c.kind, let at = c.at in let up = h.2 in omega arith))

@@ -16,7 +16,8 @@ use Rattle.ddl_tree.specs.ExprTree.{expr_span}
 use Rattle.ddl_tree.specs.ModuleTree as mo
 use Rattle.ddl_tree.specs.ModuleTree.{bits_span}
 use Rattle.ddl_tree.specs.Print.{print_type, print_typed, print_class, print}
-use Rattle.ddl_tree.specs.PrintModule.{print_param, print_params, print_part, print_parts, print_more_parts, print_bits, print_con, print_cons, print_more_cons, print_decl, print_decls, print_imports}
+use Rattle.ddl_tree.specs.PrintModule.{print_param, print_params, print_part, print_parts, print_more_parts, print_bits, print_con, print_cons, print_more_cons}
+use Rattle.ddl_tree.specs.PrintModule.{print_decl, print_decls, print_imports}
 use Rattle.ddl_tree.specs.Grammar.{IsClass, IsExpr}
 use Rattle.ddl_tree.specs.GrammarModule.{IsPart, AreParts, IsBits, AreCons, IsDecl, AreDecls}
 use Rattle.ddl_reader.specs.Frames.{Frame, Focus, State, Found, FoundType, FoundClass, Head, Sort, Layout, Parted, PartStart, Repeat, Start, Loop, Cases}
@@ -25,7 +26,10 @@ use Rattle.ddl_reader.specs.StepType.{joined}
 use Rattle.ddl_reader.specs.StepExpr.{least}
 use Rattle.ddl_reader.specs.StepExpr.{name_at}
 use Rattle.ddl_reader.specs.StepType.{number_at}
-use Rattle.ddl_reader.specs.StepDecl.{with_decl, with_import, begin_decl, begin_import, import_name, decl_name, with_param, param_with, param_name, param_colon_with, typed_param, after_param_type, after_result, decl_of, close_body, class_equals_with, close_class_body, after_class_body, bits_name, after_bits_name_with, open_cons_with, con_name, con_equals_with, con_of, bits_done, after_con_with, bit_pattern, bits_with, with_part, part_with, part_colon_with, part_of, after_part_with}
+use Rattle.ddl_reader.specs.StepDecl.{with_decl, with_import, begin_decl, begin_import, import_name, decl_name, with_param, param_with, param_name}
+use Rattle.ddl_reader.specs.StepDecl.{param_colon_with, typed_param, after_param_type, after_result, decl_of, close_body, class_equals_with, close_class_body}
+use Rattle.ddl_reader.specs.StepDecl.{after_class_body, bits_name, after_bits_name_with, open_cons_with, con_name, con_equals_with, con_of, bits_done}
+use Rattle.ddl_reader.specs.StepDecl.{after_con_with, bit_pattern, bits_with, with_part, part_with, part_colon_with, part_of, after_part_with}
 use Rattle.ddl_reader.proofs.Before.{before, read, sorted_name, head_tokens, layout_tokens, part_start_tokens, part_start_begun, each_part, each_con}
 use Rattle.ddl_reader.proofs.Fits.{IsLayout, IsParted, NoDecls, wanted, AreFrames, IsFocus, Reads, Steps, shift, least_small}
 
@@ -47,12 +51,18 @@ imports_each [] i r = refl
 imports_each (j ∷ is) i r = ap (λ z. k.Word w.Import ∷ k.Upper j.name.text ∷ z) (imports_each is i r)
 
 -- the declaration is read, and another may come
-pub with_decl_fine : (d : mo.Decl) (n : ℕ) (fs : List Frame) → AreFrames fs → wanted fs ≡ 4 → IsDecl d → Reads fs (print_decl d) (with_decl d n fs, frame.at_decl)
+pub with_decl_fine : (d : mo.Decl) (n : ℕ) (fs : List Frame) → AreFrames fs → wanted fs ≡ 4 → IsDecl d
+    → Reads fs (print_decl d) (with_decl d n fs, frame.at_decl)
 with_decl_fine d n [] h w i = absurd (omega arith)
-with_decl_fine d n (frame.in_module a m ∷ fs) h w i = ((λ r. ap (λ z. read fs (print_imports a.imports z)) (decls_each a.decls d r)), (decls_more a.decls d h.0 i, h.1, h.2, tt, h.4), refl)
+with_decl_fine d n (frame.in_module a m ∷ fs) h w i = (
+  (λ r. ap (λ z. read fs (print_imports a.imports z)) (decls_each a.decls d r)),
+  (decls_more a.decls d h.0 i, h.1, h.2, tt, h.4),
+  refl,
+)
 with_decl_fine d n (_ ∷ fs) h w i = absurd (omega arith)
 
-with_import_fine : (i : Import) (fs : List Frame) → AreFrames fs → wanted fs ≡ 4 → NoDecls fs → Reads fs (λ r. k.Word w.Import ∷ k.Upper i.name.text ∷ r) (with_import i fs, frame.at_import)
+with_import_fine : (i : Import) (fs : List Frame) → AreFrames fs → wanted fs ≡ 4 → NoDecls fs
+    → Reads fs (λ r. k.Word w.Import ∷ k.Upper i.name.text ∷ r) (with_import i fs, frame.at_import)
 with_import_fine i [] h g n = absurd (omega arith)
 with_import_fine i (frame.in_module a m ∷ fs) h g n = (
   (λ r.
@@ -76,7 +86,8 @@ pub begin_import_fine : (x : Tok) (s : Span) (fs : List Frame) → AreFrames fs 
 begin_import_fine (k.Word w.Import) s fs h i = ((λ r. refl), h, i)
 begin_import_fine x s fs h i = decl_of_import x fs (begin_decl x s fs) (begin_decl_fine x s fs h i.0)
 
-pub import_name_fine : (x : Tok) (s from : Span) (fs : List Frame) → AreFrames fs → IsFocus fs (frame.want_import from) → Steps fs (frame.want_import from) x (import_name x s from fs)
+pub import_name_fine : (x : Tok) (s from : Span) (fs : List Frame) → AreFrames fs → IsFocus fs (frame.want_import from)
+    → Steps fs (frame.want_import from) x (import_name x s from fs)
 import_name_fine (k.Upper x) s from fs h i = with_import_fine (record { name = name_at x s; span = joined from s }) fs h i.0 i.1
 import_name_fine _ s from fs h i = tt
 
@@ -104,24 +115,30 @@ param_fine (k.Mark m.Colon) s d fs h w = ((λ r. refl), (tt, w, small fs, tt, h)
 param_fine (k.Mark m.Equals) s d fs h w = ((λ r. refl), (tt, w, small fs, tt, h), refl)
 param_fine _ s d fs h w = tt
 
-pub param_name_fine : (x : Tok) (s : Span) (d : Head) (from : Span) (fs : List Frame) → AreFrames fs → wanted fs ≡ 4 → Steps fs (frame.open_param d from) x (param_name x s d from fs)
+pub param_name_fine : (x : Tok) (s : Span) (d : Head) (from : Span) (fs : List Frame) → AreFrames fs → wanted fs ≡ 4
+    → Steps fs (frame.open_param d from) x (param_name x s d from fs)
 param_name_fine (k.Upper x) s d from fs h w = ((λ r. refl), h, w)
 param_name_fine (k.Lower x) s d from fs h w = ((λ r. refl), h, w)
 param_name_fine _ s d from fs h w = tt
 
-pub param_colon_fine : (x : Tok) (d : Head) (from : Span) (o : Sort) (y : Name) (fs : List Frame) → AreFrames fs → wanted fs ≡ 4 → Steps fs (frame.param_colon d from o y) x (param_colon_with x d from o y fs)
+pub param_colon_fine : (x : Tok) (d : Head) (from : Span) (o : Sort) (y : Name) (fs : List Frame) → AreFrames fs → wanted fs ≡ 4
+    → Steps fs (frame.param_colon d from o y) x (param_colon_with x d from o y fs)
 param_colon_fine (k.Mark m.Colon) d from o y fs h w = ((λ r. refl), (tt, w, small fs, tt, h), refl)
 param_colon_fine _ d from o y fs h w = tt
 
-typed_tokens : (o : Sort) (y : Name) (t : ty.TypeExpr) (s : Span) (r : List Tok) → print_param (typed_param o y t s) r ≡ k.Mark m.OpenParen ∷ sorted_name o y ∷ k.Mark m.Colon ∷ print_type t (k.Mark m.CloseParen ∷ r)
+typed_tokens : (o : Sort) (y : Name) (t : ty.TypeExpr) (s : Span) (r : List Tok)
+    → print_param (typed_param o y t s) r ≡ k.Mark m.OpenParen ∷ sorted_name o y ∷ k.Mark m.Colon ∷ print_type t (k.Mark m.CloseParen ∷ r)
 typed_tokens frame.of_grammar y t s r = refl
 typed_tokens frame.of_value y t s r = refl
 
-pub after_param_type_fine : (x : Tok) (s : Span) (d : Head) (from : Span) (o : Sort) (y : Name) (t : FoundType) (fs : List Frame) → AreFrames fs → wanted fs ≡ 4 → Steps (frame.in_param d from o y ∷ fs) (frame.have_type t) x (after_param_type x s d from o y t fs)
-after_param_type_fine (k.Mark m.CloseParen) s d from o y t fs h w = ((λ r. ap (read fs) (head_more d (typed_param o y t.type (joined from s)) t.deep r ∙ ap (head_tokens d) (typed_tokens o y t.type (joined from s) r))), h, w)
+pub after_param_type_fine : (x : Tok) (s : Span) (d : Head) (from : Span) (o : Sort) (y : Name) (t : FoundType) (fs : List Frame) → AreFrames fs → wanted fs ≡ 4
+    → Steps (frame.in_param d from o y ∷ fs) (frame.have_type t) x (after_param_type x s d from o y t fs)
+after_param_type_fine (k.Mark m.CloseParen) s d from o y t fs h w =
+    ((λ r. ap (read fs) (head_more d (typed_param o y t.type (joined from s)) t.deep r ∙ ap (head_tokens d) (typed_tokens o y t.type (joined from s) r))), h, w)
 after_param_type_fine _ s d from o y t fs h w = tt
 
-pub after_result_fine : (x : Tok) (d : Head) (t : FoundType) (fs : List Frame) → AreFrames fs → wanted fs ≡ 4 → Steps (frame.in_result d ∷ fs) (frame.have_type t) x (after_result x d t fs)
+pub after_result_fine : (x : Tok) (d : Head) (t : FoundType) (fs : List Frame) → AreFrames fs → wanted fs ≡ 4
+    → Steps (frame.in_result d ∷ fs) (frame.have_type t) x (after_result x d t fs)
 after_result_fine (k.Mark m.Equals) d t fs h w = ((λ r. refl), (tt, w, small fs, tt, h), refl)
 after_result_fine _ d t fs h w = tt
 
@@ -135,30 +152,38 @@ decl_is frame.of_grammar y ps t a s i = i
 decl_is frame.of_value y ps t a s i = i
 
 -- a body ends its declaration
-pub close_body_fine : (d : Head) (t : Option ty.TypeExpr) (n : ℕ) (a : Found) (fs : List Frame) → AreFrames fs → wanted fs ≡ 4 → IsExpr a.expr → Reads fs (λ r. before (frame.in_body d t n) (print a.expr r)) (close_body d t n a fs, frame.at_decl)
+pub close_body_fine : (d : Head) (t : Option ty.TypeExpr) (n : ℕ) (a : Found) (fs : List Frame) → AreFrames fs → wanted fs ≡ 4 → IsExpr a.expr
+    → Reads fs (λ r. before (frame.in_body d t n) (print a.expr r)) (close_body d t n a fs, frame.at_decl)
 close_body_fine d t n a fs h w i =
     let e = decl_of d.sort d.name d.params t a (joined d.from (expr_span a.expr)) in
     let g = with_decl_fine e (max d.deep (max n a.deep)) fs h w (decl_is d.sort d.name d.params t a (joined d.from (expr_span a.expr)) i) in
     ((λ r. g.0 r ∙ ap (read fs) (decl_tokens d.sort d.name d.params t a (joined d.from (expr_span a.expr)) r)), g.1, g.2)
 
-pub after_body_fine : (x : Tok) (s : Span) (d : Head) (t : Option ty.TypeExpr) (n : ℕ) (a : Found) (fs : List Frame) → AreFrames fs → wanted fs ≡ 4 → IsExpr a.expr → Steps (frame.in_body d t n ∷ fs) (frame.have a) x (begin_decl x s (close_body d t n a fs))
+pub after_body_fine : (x : Tok) (s : Span) (d : Head) (t : Option ty.TypeExpr) (n : ℕ) (a : Found) (fs : List Frame) → AreFrames fs → wanted fs ≡ 4
+    → IsExpr a.expr → Steps (frame.in_body d t n ∷ fs) (frame.have a) x (begin_decl x s (close_body d t n a fs))
 after_body_fine x s d t n a fs h w i =
     let g = close_body_fine d t n a fs h w i in
-    shift (close_body d t n a fs) (frame.in_body d t n ∷ fs) frame.at_decl (frame.have a) x (begin_decl x s (close_body d t n a fs)) (λ r. g.0 (x ∷ r)) (begin_decl_fine x s (close_body d t n a fs) g.1 g.2)
+    shift (close_body d t n a fs) (frame.in_body d t n ∷ fs) frame.at_decl (frame.have a) x (begin_decl x s (close_body d t n a fs)) (λ r.
+    g.0 (x ∷ r)) (begin_decl_fine x s (close_body d t n a fs) g.1 g.2)
 
-pub class_equals_fine : (x : Tok) (from : Span) (y : Name) (fs : List Frame) → AreFrames fs → wanted fs ≡ 4 → Steps fs (frame.class_equals from y) x (class_equals_with x from y fs)
+pub class_equals_fine : (x : Tok) (from : Span) (y : Name) (fs : List Frame) → AreFrames fs → wanted fs ≡ 4
+    → Steps fs (frame.class_equals from y) x (class_equals_with x from y fs)
 class_equals_fine (k.Mark m.Equals) from y fs h w = ((λ r. refl), (tt, w, small fs, tt, h), refl)
 class_equals_fine _ from y fs h w = tt
 
-pub class_body_fine : (from : Span) (y : Name) (c : FoundClass) (fs : List Frame) → AreFrames fs → wanted fs ≡ 4 → IsClass c.class → Reads fs (λ r. before (frame.in_class_body from y) (print_class c.class r)) (close_class_body from y c fs, frame.at_decl)
+pub class_body_fine : (from : Span) (y : Name) (c : FoundClass) (fs : List Frame) → AreFrames fs → wanted fs ≡ 4 → IsClass c.class
+    → Reads fs (λ r. before (frame.in_class_body from y) (print_class c.class r)) (close_class_body from y c fs, frame.at_decl)
 class_body_fine from y c fs h w i = with_decl_fine (mo.ClassDef y c.class (joined from (class_span c.class))) c.deep fs h w i
 
-after_class_fine : (x : Tok) (s from : Span) (y : Name) (c : FoundClass) (fs : List Frame) → AreFrames fs → wanted fs ≡ 4 → IsClass c.class → Steps (frame.in_class_body from y ∷ fs) (frame.have_class c) x (begin_decl x s (close_class_body from y c fs))
+after_class_fine : (x : Tok) (s from : Span) (y : Name) (c : FoundClass) (fs : List Frame) → AreFrames fs → wanted fs ≡ 4 → IsClass c.class
+    → Steps (frame.in_class_body from y ∷ fs) (frame.have_class c) x (begin_decl x s (close_class_body from y c fs))
 after_class_fine x s from y c fs h w i =
     let g = class_body_fine from y c fs h w i in
-    shift (close_class_body from y c fs) (frame.in_class_body from y ∷ fs) frame.at_decl (frame.have_class c) x (begin_decl x s (close_class_body from y c fs)) (λ r. g.0 (x ∷ r)) (begin_decl_fine x s (close_class_body from y c fs) g.1 g.2)
+    shift (close_class_body from y c fs) (frame.in_class_body from y ∷ fs) frame.at_decl (frame.have_class c) x (begin_decl x s (close_class_body from y c fs))
+    (λ r. g.0 (x ∷ r)) (begin_decl_fine x s (close_class_body from y c fs) g.1 g.2)
 
-pub after_class_body_fine : (x : Tok) (s from : Span) (y : Name) (c : FoundClass) (fs : List Frame) → AreFrames (frame.in_class_body from y ∷ fs) → IsClass c.class → Steps (frame.in_class_body from y ∷ fs) (frame.have_class c) x (after_class_body x s from y c fs)
+pub after_class_body_fine : (x : Tok) (s from : Span) (y : Name) (c : FoundClass) (fs : List Frame) → AreFrames (frame.in_class_body from y ∷ fs)
+    → IsClass c.class → Steps (frame.in_class_body from y ∷ fs) (frame.have_class c) x (after_class_body x s from y c fs)
 after_class_body_fine (k.Mark m.Bar) s from y c fs h i = ((λ r. refl), (i, refl, omega arith, tt, h), refl)
 after_class_body_fine x s from y c fs h i = after_class_fine x s from y c fs h.4 h.1 i
 
@@ -168,20 +193,24 @@ pub bits_name_fine : (x : Tok) (s from : Span) (fs : List Frame) → AreFrames f
 bits_name_fine (k.Upper x) s from fs h w = ((λ r. refl), h, w)
 bits_name_fine _ s from fs h w = tt
 
-pub after_bits_name_fine : (x : Tok) (from : Span) (y : Name) (fs : List Frame) → AreFrames fs → wanted fs ≡ 4 → Steps fs (frame.after_bits_name from y) x (after_bits_name_with x from y fs)
+pub after_bits_name_fine : (x : Tok) (from : Span) (y : Name) (fs : List Frame) → AreFrames fs → wanted fs ≡ 4
+    → Steps fs (frame.after_bits_name from y) x (after_bits_name_with x from y fs)
 after_bits_name_fine (k.Mark m.Equals) from y fs h w = ((λ r. refl), h, (tt, w))
 after_bits_name_fine (k.Word w.Where) from y fs h w = ((λ r. refl), h, w)
 after_bits_name_fine _ from y fs h w = tt
 
-pub open_cons_fine : (x : Tok) (from : Span) (y : Name) (fs : List Frame) → AreFrames fs → wanted fs ≡ 4 → Steps fs (frame.open_cons from y) x (open_cons_with x from y fs)
+pub open_cons_fine : (x : Tok) (from : Span) (y : Name) (fs : List Frame) → AreFrames fs → wanted fs ≡ 4
+    → Steps fs (frame.open_cons from y) x (open_cons_with x from y fs)
 open_cons_fine (k.Mark m.OpenBrace) from y fs h w = ((λ r. refl), h, (tt, w))
 open_cons_fine _ from y fs h w = tt
 
-pub con_name_fine : (x : Tok) (s from : Span) (y : Name) (cs : List mo.Con) (n : ℕ) (fs : List Frame) → AreFrames fs → IsFocus fs (frame.want_con from y cs n) → Steps fs (frame.want_con from y cs n) x (con_name x s from y cs n fs)
+pub con_name_fine : (x : Tok) (s from : Span) (y : Name) (cs : List mo.Con) (n : ℕ) (fs : List Frame) → AreFrames fs → IsFocus fs (frame.want_con from y cs n)
+    → Steps fs (frame.want_con from y cs n) x (con_name x s from y cs n fs)
 con_name_fine (k.Lower z) s from y cs n fs h i = ((λ r. refl), h, i)
 con_name_fine _ s from y cs n fs h i = tt
 
-pub con_equals_fine : (x : Tok) (from : Span) (y : Name) (cs : List mo.Con) (n : ℕ) (z : Name) (fs : List Frame) → AreFrames fs → IsFocus fs (frame.con_equals from y cs n z) → Steps fs (frame.con_equals from y cs n z) x (con_equals_with x from y cs n z fs)
+pub con_equals_fine : (x : Tok) (from : Span) (y : Name) (cs : List mo.Con) (n : ℕ) (z : Name) (fs : List Frame) → AreFrames fs
+    → IsFocus fs (frame.con_equals from y cs n z) → Steps fs (frame.con_equals from y cs n z) x (con_equals_with x from y cs n z fs)
 con_equals_fine (k.Mark m.Equals) from y cs n z fs h i = ((λ r. refl), h, i)
 con_equals_fine _ from y cs n z fs h i = tt
 
@@ -207,24 +236,33 @@ cons_some : (cs : List mo.Con) (c : mo.Con) → cs ++ c ∷ [] ≢ []
 cons_some [] c = λ e. cc
 cons_some (d ∷ cs) c = λ e. cc
 
-pub bits_done_fine : (l : Layout) (b : mo.Bits) (n : ℕ) (fs : List Frame) → AreFrames fs → wanted fs ≡ 4 → IsLayout l → IsBits b → Reads fs (λ r. layout_tokens l (print_bits b r)) (bits_done l b n fs)
+pub bits_done_fine : (l : Layout) (b : mo.Bits) (n : ℕ) (fs : List Frame) → AreFrames fs → wanted fs ≡ 4 → IsLayout l → IsBits b
+    → Reads fs (λ r. layout_tokens l (print_bits b r)) (bits_done l b n fs)
 bits_done_fine (frame.of_decl from y) b n fs h g j i = with_decl_fine (mo.BitsDef y b (joined from (bits_span b))) n fs h g i
-bits_done_fine (frame.of_con from y cs z d) b n fs h g j i =
-    ((λ r. ap (λ t. read fs (k.Word w.Bitdata ∷ k.Upper y.text ∷ k.Word w.Where ∷ k.Mark m.OpenBrace ∷ t)) (row_cons cs (con_of z b) r)), h, ((cons_more cs (con_of z b) j i, cons_some cs (con_of z b)), g))
+bits_done_fine (frame.of_con from y cs z d) b n fs h g j i = (
+  (λ r. ap (λ t. read fs (k.Word w.Bitdata ∷ k.Upper y.text ∷ k.Word w.Where ∷ k.Mark m.OpenBrace ∷ t)) (row_cons cs (con_of z b) r)),
+  h,
+  ((cons_more cs (con_of z b) j i, cons_some cs (con_of z b)), g),
+)
 
-pub after_con_fine : (x : Tok) (s from : Span) (y : Name) (cs : List mo.Con) (n : ℕ) (fs : List Frame) → AreFrames fs → IsFocus fs (frame.after_con from y cs n) → Steps fs (frame.after_con from y cs n) x (after_con_with x s from y cs n fs)
-after_con_fine (k.Mark m.Semicolon) s from y cs n fs h i = ((λ r. ap (λ t. read fs (k.Word w.Bitdata ∷ k.Upper y.text ∷ k.Word w.Where ∷ k.Mark m.OpenBrace ∷ t)) (cons_then cs r i.0.1)), h, (i.0.0, i.1))
+pub after_con_fine : (x : Tok) (s from : Span) (y : Name) (cs : List mo.Con) (n : ℕ) (fs : List Frame) → AreFrames fs → IsFocus fs (frame.after_con from y cs n)
+    → Steps fs (frame.after_con from y cs n) x (after_con_with x s from y cs n fs)
+after_con_fine (k.Mark m.Semicolon) s from y cs n fs h i =
+    ((λ r. ap (λ t. read fs (k.Word w.Bitdata ∷ k.Upper y.text ∷ k.Word w.Where ∷ k.Mark m.OpenBrace ∷ t)) (cons_then cs r i.0.1)), h, (i.0.0, i.1))
 after_con_fine (k.Mark m.CloseBrace) s from y cs n fs h i = with_decl_fine (mo.BitsUnion y cs (joined from s)) n fs h i.1 (i.0.1, i.0.0)
 after_con_fine _ s from y cs n fs h i = tt
 
 -- a number in base 2 or 16
-bit_pattern_fine : (fs : List Frame) (f : Focus) (x : Tok) (b : Base) (z : State) → (b ≢ Decimal → Steps fs f x (Some z)) → Steps fs f x (bit_pattern b (Some z))
+bit_pattern_fine : (fs : List Frame) (f : Focus) (x : Tok) (b : Base) (z : State) → (b ≢ Decimal → Steps fs f x (Some z))
+    → Steps fs f x (bit_pattern b (Some z))
 bit_pattern_fine fs f x Decimal z h = tt
 bit_pattern_fine fs f x Hexadecimal z h = h (λ e. cc)
 bit_pattern_fine fs f x Binary z h = h (λ e. cc)
 
-pub bits_fine : (x : Tok) (s : Span) (l : Layout) (fs : List Frame) → AreFrames fs → IsFocus fs (frame.want_bits l) → Steps fs (frame.want_bits l) x (bits_with x s l fs)
-bits_fine (k.Number v b d) s l fs h i = bit_pattern_fine fs (frame.want_bits l) (k.Number v b d) b (bits_done l (mo.Exactly (number_at v b d s)) 0 fs) (λ e. bits_done_fine l (mo.Exactly (number_at v b d s)) 0 fs h i.1 i.0 e)
+pub bits_fine : (x : Tok) (s : Span) (l : Layout) (fs : List Frame) → AreFrames fs → IsFocus fs (frame.want_bits l)
+    → Steps fs (frame.want_bits l) x (bits_with x s l fs)
+bits_fine (k.Number v b d) s l fs h i = bit_pattern_fine fs (frame.want_bits l) (k.Number v b d) b (bits_done l (mo.Exactly (number_at v b d s)) 0 fs) (λ e.
+    bits_done_fine l (mo.Exactly (number_at v b d s)) 0 fs h i.1 i.0 e)
 bits_fine (k.Mark m.OpenBrace) s l fs h i = ((λ r. refl), h, ((i.0, tt), i.1))
 bits_fine _ s l fs h i = tt
 
@@ -250,11 +288,20 @@ parts_some [] a = λ e. cc
 parts_some (b ∷ ps) a = λ e. cc
 
 -- a part that has been read whole
-with_part_fine : (p : Parted) (a : mo.Part) (n : ℕ) (fs : List Frame) → AreFrames fs → wanted fs ≡ 4 → IsParted p → IsPart a → Reads fs (λ r. layout_tokens p.layout (k.Mark m.OpenBrace ∷ each_part p.parts (print_part a r))) (fs, frame.after_part (with_part p a n))
-with_part_fine p a n fs h w j i = ((λ r. ap (λ z. read fs (layout_tokens p.layout (k.Mark m.OpenBrace ∷ z))) (row_parts p.parts a r)), h, (((j.0, parts_more p.parts a j.1 i), parts_some p.parts a), w))
+with_part_fine : (p : Parted) (a : mo.Part) (n : ℕ) (fs : List Frame) → AreFrames fs → wanted fs ≡ 4 → IsParted p → IsPart a
+    → Reads fs (λ r. layout_tokens p.layout (k.Mark m.OpenBrace ∷ each_part p.parts (print_part a r))) (fs, frame.after_part (with_part p a n))
+with_part_fine p a n fs h w j i = (
+  (λ r. ap (λ z. read fs (layout_tokens p.layout (k.Mark m.OpenBrace ∷ z))) (row_parts p.parts a r)),
+  h,
+  (((j.0, parts_more p.parts a j.1 i), parts_some p.parts a), w),
+)
 
-pub part_fine : (x : Tok) (s : Span) (p : Parted) (fs : List Frame) → AreFrames fs → IsFocus fs (frame.want_part p) → Steps fs (frame.want_part p) x (part_with x s p fs)
-part_fine (k.Number v b d) s p fs h i = bit_pattern_fine fs (frame.want_part p) (k.Number v b d) b (fs, frame.after_part (with_part p (mo.Fixed (number_at v b d s)) 0)) (λ e. with_part_fine p (mo.Fixed (number_at v b d s)) 0 fs h i.1 i.0 e)
+pub part_fine : (x : Tok) (s : Span) (p : Parted) (fs : List Frame) → AreFrames fs → IsFocus fs (frame.want_part p)
+    → Steps fs (frame.want_part p) x (part_with x s p fs)
+part_fine (k.Number v b d) s p fs h i = bit_pattern_fine fs (frame.want_part p) (k.Number v b d) b (
+  fs,
+  frame.after_part (with_part p (mo.Fixed (number_at v b d s)) 0),
+) (λ e. with_part_fine p (mo.Fixed (number_at v b d s)) 0 fs h i.1 i.0 e)
 part_fine (k.Lower x) s p fs h i = ((λ r. refl), h, i)
 part_fine (k.Mark m.Underscore) s p fs h i = ((λ r. refl), h, i)
 part_fine _ s p fs h i = tt
@@ -263,12 +310,22 @@ colon_tokens : (o : PartStart) (r : List Tok) → part_start_tokens o r ≡ part
 colon_tokens (frame.named x) r = refl
 colon_tokens (frame.unnamed s) r = refl
 
-pub part_colon_fine : (x : Tok) (p : Parted) (o : PartStart) (fs : List Frame) → AreFrames fs → IsFocus fs (frame.part_colon p o) → Steps fs (frame.part_colon p o) x (part_colon_with x p o fs)
-part_colon_fine (k.Mark m.Colon) p o fs h i = ((λ r. ap (λ z. read fs (layout_tokens p.layout (k.Mark m.OpenBrace ∷ each_part p.parts z))) (colon_tokens o r)), (i.0, i.1, small fs, tt, h), refl)
+pub part_colon_fine : (x : Tok) (p : Parted) (o : PartStart) (fs : List Frame) → AreFrames fs → IsFocus fs (frame.part_colon p o)
+    → Steps fs (frame.part_colon p o) x (part_colon_with x p o fs)
+part_colon_fine (k.Mark m.Colon) p o fs h i = (
+  (λ r. ap (λ z. read fs (layout_tokens p.layout (k.Mark m.OpenBrace ∷ each_part p.parts z))) (colon_tokens o r)),
+  (i.0, i.1, small fs, tt, h),
+  refl,
+)
 part_colon_fine _ p o fs h i = tt
 
-pub after_part_fine : (x : Tok) (s : Span) (p : Parted) (fs : List Frame) → AreFrames fs → IsFocus fs (frame.after_part p) → Steps fs (frame.after_part p) x (after_part_with x s p fs)
-after_part_fine (k.Mark m.Comma) s p fs h i = ((λ r. ap (λ z. read fs (layout_tokens p.layout (k.Mark m.OpenBrace ∷ z))) (parts_then p.parts r i.0.1)), h, (i.0.0, i.1))
+pub after_part_fine : (x : Tok) (s : Span) (p : Parted) (fs : List Frame) → AreFrames fs → IsFocus fs (frame.after_part p)
+    → Steps fs (frame.after_part p) x (after_part_with x s p fs)
+after_part_fine (k.Mark m.Comma) s p fs h i = (
+  (λ r. ap (λ z. read fs (layout_tokens p.layout (k.Mark m.OpenBrace ∷ z))) (parts_then p.parts r i.0.1)),
+  h,
+  (i.0.0, i.1),
+)
 after_part_fine (k.Mark m.CloseBrace) s p fs h i = bits_done_fine p.layout (mo.Parts p.parts (joined p.from s)) p.deep fs h i.1 i.0.0.0 (i.0.1, i.0.0.1)
 after_part_fine _ s p fs h i = tt
 
@@ -281,13 +338,16 @@ part_is (frame.named x) t = tt
 part_is (frame.unnamed s) t = tt
 
 -- a type ends its part
-pub typed_part_fine : (p : Parted) (o : PartStart) (t : FoundType) (fs : List Frame) → AreFrames (frame.in_part p o ∷ fs) → Reads (frame.in_part p o ∷ fs) (print_type t.type) (fs, frame.after_part (with_part p (part_of o t.type) t.deep))
+pub typed_part_fine : (p : Parted) (o : PartStart) (t : FoundType) (fs : List Frame) → AreFrames (frame.in_part p o ∷ fs)
+    → Reads (frame.in_part p o ∷ fs) (print_type t.type) (fs, frame.after_part (with_part p (part_of o t.type) t.deep))
 typed_part_fine p o t fs h =
     let g = with_part_fine p (part_of o t.type) t.deep fs h.4 h.1 h.0 (part_is o t.type) in
     ((λ r. g.0 r ∙ ap (λ z. read fs (layout_tokens p.layout (k.Mark m.OpenBrace ∷ each_part p.parts z))) (part_tokens o t.type r)), g.1, g.2)
 
-pub after_typed_part_fine : (x : Tok) (s : Span) (p : Parted) (o : PartStart) (t : FoundType) (fs : List Frame) → AreFrames (frame.in_part p o ∷ fs) → Steps (frame.in_part p o ∷ fs) (frame.have_type t) x (after_part_with x s (with_part p (part_of o t.type) t.deep) fs)
+pub after_typed_part_fine : (x : Tok) (s : Span) (p : Parted) (o : PartStart) (t : FoundType) (fs : List Frame) → AreFrames (frame.in_part p o ∷ fs)
+    → Steps (frame.in_part p o ∷ fs) (frame.have_type t) x (after_part_with x s (with_part p (part_of o t.type) t.deep) fs)
 after_typed_part_fine x s p o t fs h =
     let g = typed_part_fine p o t fs h in
     let q = with_part p (part_of o t.type) t.deep in
-    shift fs (frame.in_part p o ∷ fs) (frame.after_part q) (frame.have_type t) x (after_part_with x s q fs) (λ r. g.0 (x ∷ r)) (after_part_fine x s q fs g.1 g.2)
+    shift fs (frame.in_part p o ∷ fs) (frame.after_part q) (frame.have_type t) x (after_part_with x s q fs) (λ r.
+    g.0 (x ∷ r)) (after_part_fine x s q fs g.1 g.2)

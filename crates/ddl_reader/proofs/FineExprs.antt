@@ -21,7 +21,8 @@ use Rattle.ddl_reader.specs.Frames.{Frame, Focus, State, Found, FoundType, Found
 use Rattle.ddl_reader.specs.Frames as frame
 use Rattle.ddl_reader.specs.StepType.{found}
 use Rattle.ddl_reader.specs.StepExpr.{hole, least, binds}
-use Rattle.ddl_reader.specs.StepExpr.{repeat, name_at, if_within, begin_result, begin_let, close_array, begin_high, close_low, begin_word, begin_mark, begin, apply, if_above, infix_with, extend_word, extend_mark, extend, with_argument, closes}
+use Rattle.ddl_reader.specs.StepExpr.{repeat, name_at, if_within, begin_result, begin_let, close_array, begin_high, close_low, begin_word, begin_mark, begin}
+use Rattle.ddl_reader.specs.StepExpr.{apply, if_above, infix_with, extend_word, extend_mark, extend, with_argument, closes}
 use Rattle.ddl_reader.specs.StepType.{number_at}
 use Rattle.ddl_reader.proofs.Before.{before, read, each_arg}
 use Rattle.ddl_reader.proofs.Fits.{Atoms, makes, wanted, form, IsFrame, AreFrames, Reads, Steps, shift, tested, le_of, least_small}
@@ -65,10 +66,14 @@ begin_word_fine w.If s fs a h = within_fine 3 (k.Word w.If) fs (frame.in_if s �
 begin_word_fine w.For s fs a h = within_fine 3 (k.Word w.For) fs (fs, frame.open_for s) (λ l. ((λ r. refl), a, (h, l)))
 begin_word_fine w.Map s fs a h = within_fine 3 (k.Word w.Map) fs (fs, frame.open_map s) (λ l. ((λ r. refl), a, (h, l)))
 begin_word_fine w.Just s fs a h = within_fine 16 (k.Word w.Just) fs (frame.in_just s ∷ fs, frame.want) (λ l. ((λ r. refl), (tt, h, l, tt, a), refl))
-begin_word_fine w.Many s fs a h = within_fine 16 (k.Word w.Many) fs (frame.in_many (repeat Biased s) ex.Free 0 ∷ fs, frame.want) (λ l. ((λ r. refl), (tt, h, l, tt, a), refl))
-begin_word_fine w.ManyAll s fs a h = within_fine 16 (k.Word w.ManyAll) fs (frame.in_many (repeat Unbiased s) ex.Free 0 ∷ fs, frame.want) (λ l. ((λ r. refl), (tt, h, l, tt, a), refl))
-begin_word_fine w.Optional s fs a h = within_fine 16 (k.Word w.Optional) fs (frame.in_optional (repeat Biased s) ∷ fs, frame.want) (λ l. ((λ r. refl), (tt, h, l, tt, a), refl))
-begin_word_fine w.OptionalAll s fs a h = within_fine 16 (k.Word w.OptionalAll) fs (frame.in_optional (repeat Unbiased s) ∷ fs, frame.want) (λ l. ((λ r. refl), (tt, h, l, tt, a), refl))
+begin_word_fine w.Many s fs a h = within_fine 16 (k.Word w.Many) fs (frame.in_many (repeat Biased s) ex.Free 0 ∷ fs, frame.want) (λ l.
+    ((λ r. refl), (tt, h, l, tt, a), refl))
+begin_word_fine w.ManyAll s fs a h = within_fine 16 (k.Word w.ManyAll) fs (frame.in_many (repeat Unbiased s) ex.Free 0 ∷ fs, frame.want) (λ l.
+    ((λ r. refl), (tt, h, l, tt, a), refl))
+begin_word_fine w.Optional s fs a h = within_fine 16 (k.Word w.Optional) fs (frame.in_optional (repeat Biased s) ∷ fs, frame.want) (λ l.
+    ((λ r. refl), (tt, h, l, tt, a), refl))
+begin_word_fine w.OptionalAll s fs a h = within_fine 16 (k.Word w.OptionalAll) fs (frame.in_optional (repeat Unbiased s) ∷ fs, frame.want) (λ l.
+    ((λ r. refl), (tt, h, l, tt, a), refl))
 begin_word_fine w.Block s fs a h = ((λ r. refl), a, h)
 begin_word_fine w.First s fs a h = ((λ r. refl), a, h)
 begin_word_fine w.Choose s fs a h = ((λ r. refl), a, h)
@@ -78,9 +83,11 @@ begin_word_fine _ s fs a h = tt
 
 begin_mark_fine : (o : Mark) (s : Span) (fs : List Frame) → AreFrames fs → wanted fs ≡ 1 → Steps fs frame.want (k.Mark o) (begin_mark o s fs)
 begin_mark_fine m.Caret s fs a h = within_fine 3 (k.Mark m.Caret) fs (frame.in_pure s ∷ fs, frame.want) (λ l. ((λ r. refl), (tt, h, l, tt, a), refl))
-begin_mark_fine m.Minus s fs a h = within_fine 14 (k.Mark m.Minus) fs (frame.in_prefix pre.Negate s ∷ fs, frame.want) (λ l. ((λ r. refl), (tt, h, l, tt, a), refl))
+begin_mark_fine m.Minus s fs a h = within_fine 14 (k.Mark m.Minus) fs (frame.in_prefix pre.Negate s ∷ fs, frame.want) (λ l.
+    ((λ r. refl), (tt, h, l, tt, a), refl))
 begin_mark_fine m.Bang s fs a h = within_fine 14 (k.Mark m.Bang) fs (frame.in_prefix pre.Not s ∷ fs, frame.want) (λ l. ((λ r. refl), (tt, h, l, tt, a), refl))
-begin_mark_fine m.Tilde s fs a h = within_fine 14 (k.Mark m.Tilde) fs (frame.in_prefix pre.Complement s ∷ fs, frame.want) (λ l. ((λ r. refl), (tt, h, l, tt, a), refl))
+begin_mark_fine m.Tilde s fs a h = within_fine 14 (k.Mark m.Tilde) fs (frame.in_prefix pre.Complement s ∷ fs, frame.want) (λ l.
+    ((λ r. refl), (tt, h, l, tt, a), refl))
 begin_mark_fine m.OpenParen s fs a h = ((λ r. refl), (tt, h, small fs, tt, a), refl)
 begin_mark_fine m.OpenBracket s fs a h = ((λ r. refl), (tt, h, small fs, tt, a), refl)
 begin_mark_fine m.OpenBrace s fs a h = ((λ r. refl), a, h)
@@ -104,25 +111,36 @@ begin_fine (k.Class x) s fs a h = has_one fs (ex.Class (name_at x s)) 1 a h tt (
 
 -- ---- a token that goes on with an expression
 
-apply_fine : (x : Tok) (s : Span) (e : ex.Expr) (n : ℕ) (fs : List Frame) → AreFrames fs → wanted fs ≡ 1 → least fs ≤ 16 → Steps fs (frame.have (found e n)) x (apply x s (found e n) fs)
-apply_fine x s (ex.Upper y) n fs a h l = shift (frame.in_call_grammar y [] 0 ∷ fs) fs frame.want (frame.have (found (ex.Upper y) n)) x (begin x s (frame.in_call_grammar y [] 0 ∷ fs)) (λ r. refl) (begin_fine x s (frame.in_call_grammar y [] 0 ∷ fs) (tt, h, l, tt, a) refl)
-apply_fine x s (ex.Lower y) n fs a h l = shift (frame.in_call_value y [] 0 ∷ fs) fs frame.want (frame.have (found (ex.Lower y) n)) x (begin x s (frame.in_call_value y [] 0 ∷ fs)) (λ r. refl) (begin_fine x s (frame.in_call_value y [] 0 ∷ fs) (tt, h, l, tt, a) refl)
+apply_fine : (x : Tok) (s : Span) (e : ex.Expr) (n : ℕ) (fs : List Frame) → AreFrames fs → wanted fs ≡ 1 → least fs ≤ 16
+    → Steps fs (frame.have (found e n)) x (apply x s (found e n) fs)
+apply_fine x s (ex.Upper y) n fs a h l = shift (frame.in_call_grammar y [] 0 ∷ fs) fs frame.want (frame.have (found (ex.Upper y) n)) x
+    (begin x s (frame.in_call_grammar y [] 0 ∷ fs)) (λ r. refl) (begin_fine x s (frame.in_call_grammar y [] 0 ∷ fs) (tt, h, l, tt, a) refl)
+apply_fine x s (ex.Lower y) n fs a h l = shift (frame.in_call_value y [] 0 ∷ fs) fs frame.want (frame.have (found (ex.Lower y) n)) x
+    (begin x s (frame.in_call_value y [] 0 ∷ fs)) (λ r. refl) (begin_fine x s (frame.in_call_value y [] 0 ∷ fs) (tt, h, l, tt, a) refl)
 apply_fine x s _ n fs a h l = tt
 
-above_fine : (n : ℕ) (x : Tok) (c : Found) (fs : List Frame) (z : State) → (n ≤ level c.expr → Steps fs (frame.have c) x (Some z)) → Steps fs (frame.have c) x (if_above n c z)
+above_fine : (n : ℕ) (x : Tok) (c : Found) (fs : List Frame) (z : State) → (n ≤ level c.expr → Steps fs (frame.have c) x (Some z))
+    → Steps fs (frame.have c) x (if_above n c z)
 above_fine n x c fs z h = tested fs (frame.have c) x (nat_le n (level c.expr)) (Some z) (λ e. h (le_of n (level c.expr) e))
 
-infix_fine : (o : InfixOp) (c : Found) (fs : List Frame) → AreFrames fs → wanted fs ≡ 1 → IsExpr c.expr → least fs ≤ infix_level o → Steps fs (frame.have c) (infix_token o) (infix_with o c fs)
-infix_fine o c fs a h i l = above_fine (left_level o) (infix_token o) c fs (frame.in_infix o c ∷ fs, frame.want) (λ g. ((λ r. refl), ((i, g), h, l, tt, a), refl))
+infix_fine : (o : InfixOp) (c : Found) (fs : List Frame) → AreFrames fs → wanted fs ≡ 1 → IsExpr c.expr → least fs ≤ infix_level o
+    → Steps fs (frame.have c) (infix_token o) (infix_with o c fs)
+infix_fine o c fs a h i l = above_fine (left_level o) (infix_token o) c fs (frame.in_infix o c ∷ fs, frame.want) (λ g.
+    ((λ r. refl), ((i, g), h, l, tt, a), refl))
 
-extend_word_fine : (o : Word) (s : Span) (c : Found) (fs : List Frame) → AreFrames fs → wanted fs ≡ 1 → IsExpr c.expr → least fs ≤ binds (k.Word o) → Steps fs (frame.have c) (k.Word o) (extend_word o s c fs)
+extend_word_fine : (o : Word) (s : Span) (c : Found) (fs : List Frame) → AreFrames fs → wanted fs ≡ 1 → IsExpr c.expr → least fs ≤ binds (k.Word o)
+    → Steps fs (frame.have c) (k.Word o) (extend_word o s c fs)
 extend_word_fine w.Is s c fs a h i l = above_fine 4 (k.Word w.Is) c fs (fs, frame.want_shape c) (λ g. ((λ r. refl), a, ((i, g), h, l)))
-extend_word_fine w.As s c fs a h i l = above_fine 15 (k.Word w.As) c fs (frame.in_cast cast.Lossless c ∷ fs, frame.want_type) (λ g. ((λ r. refl), ((i, g), h, l, tt, a), refl))
-extend_word_fine w.AsCut s c fs a h i l = above_fine 15 (k.Word w.AsCut) c fs (frame.in_cast cast.Cut c ∷ fs, frame.want_type) (λ g. ((λ r. refl), ((i, g), h, l, tt, a), refl))
-extend_word_fine w.AsFit s c fs a h i l = above_fine 15 (k.Word w.AsFit) c fs (frame.in_cast cast.Fit c ∷ fs, frame.want_type) (λ g. ((λ r. refl), ((i, g), h, l, tt, a), refl))
+extend_word_fine w.As s c fs a h i l = above_fine 15 (k.Word w.As) c fs (frame.in_cast cast.Lossless c ∷ fs, frame.want_type) (λ g.
+    ((λ r. refl), ((i, g), h, l, tt, a), refl))
+extend_word_fine w.AsCut s c fs a h i l = above_fine 15 (k.Word w.AsCut) c fs (frame.in_cast cast.Cut c ∷ fs, frame.want_type) (λ g.
+    ((λ r. refl), ((i, g), h, l, tt, a), refl))
+extend_word_fine w.AsFit s c fs a h i l = above_fine 15 (k.Word w.AsFit) c fs (frame.in_cast cast.Fit c ∷ fs, frame.want_type) (λ g.
+    ((λ r. refl), ((i, g), h, l, tt, a), refl))
 extend_word_fine o s c fs a h i l = apply_fine (k.Word o) s c.expr c.deep fs a h (omega arith)
 
-extend_mark_fine : (o : Mark) (s : Span) (c : Found) (fs : List Frame) → AreFrames fs → wanted fs ≡ 1 → IsExpr c.expr → least fs ≤ binds (k.Mark o) → Steps fs (frame.have c) (k.Mark o) (extend_mark o s c fs)
+extend_mark_fine : (o : Mark) (s : Span) (c : Found) (fs : List Frame) → AreFrames fs → wanted fs ≡ 1 → IsExpr c.expr → least fs ≤ binds (k.Mark o)
+    → Steps fs (frame.have c) (k.Mark o) (extend_mark o s c fs)
 extend_mark_fine m.Bar s c fs a h i l = infix_fine op.Either c fs a h i l
 extend_mark_fine m.OrElse s c fs a h i l = infix_fine op.OrElse c fs a h i l
 extend_mark_fine m.OrOr s c fs a h i l = infix_fine op.Or c fs a h i l
@@ -148,7 +166,8 @@ extend_mark_fine m.Percent s c fs a h i l = infix_fine op.Remainder c fs a h i l
 extend_mark_fine m.Dot s c fs a h i l = above_fine 17 (k.Mark m.Dot) c fs (fs, frame.want_field c) (λ g. ((λ r. refl), a, ((i, g), h)))
 extend_mark_fine o s c fs a h i l = apply_fine (k.Mark o) s c.expr c.deep fs a h (omega arith)
 
-pub extend_fine : (x : Tok) (s : Span) (c : Found) (fs : List Frame) → AreFrames fs → wanted fs ≡ 1 → IsExpr c.expr → least fs ≤ binds x → Steps fs (frame.have c) x (extend x s c fs)
+pub extend_fine : (x : Tok) (s : Span) (c : Found) (fs : List Frame) → AreFrames fs → wanted fs ≡ 1 → IsExpr c.expr → least fs ≤ binds x
+    → Steps fs (frame.have c) x (extend x s c fs)
 extend_fine (k.Word o) s c fs a h i l = extend_word_fine o s c fs a h i l
 extend_fine (k.Mark o) s c fs a h i l = extend_mark_fine o s c fs a h i l
 extend_fine x s c fs a h i l = apply_fine x s c.expr c.deep fs a h (omega arith)
@@ -188,22 +207,40 @@ closes_fine (frame.in_else s c b) a h i l = record { text = λ r. refl; tree = (
 closes_fine (frame.in_for_body s x j ns b) a h i l = record { text = λ r. refl; tree = (h.0, h.1, i, l); at = refl; kind = refl }
 closes_fine (frame.in_map_body s ns b) a h i l = record { text = λ r. refl; tree = (h, i, l); at = refl; kind = refl }
 closes_fine (frame.in_prefix o s) a h i l = record { text = λ r. refl; tree = (i, l); at = refl; kind = refl }
-closes_fine (frame.in_call_grammar x xs n) a h i l = record { text = λ r. ap (λ z. k.Upper x.text ∷ z) (args_each xs a.expr r); tree = (some_exprs xs a.expr, are_atoms (xs ++ a.expr ∷ []) (atoms_more xs a.expr h i l)); at = refl; kind = refl }
-closes_fine (frame.in_call_value x xs n) a h i l = record { text = λ r. ap (λ z. k.Lower x.text ∷ z) (args_each xs a.expr r); tree = (some_exprs xs a.expr, are_atoms (xs ++ a.expr ∷ []) (atoms_more xs a.expr h i l)); at = refl; kind = refl }
+closes_fine (frame.in_call_grammar x xs n) a h i l = record {
+  text = λ r. ap (λ z. k.Upper x.text ∷ z) (args_each xs a.expr r);
+  tree =
+      (some_exprs xs a.expr, are_atoms (xs ++ a.expr ∷ []) (atoms_more xs a.expr h i l));
+  at = refl;
+  kind = refl;
+}
+closes_fine (frame.in_call_value x xs n) a h i l = record {
+  text = λ r. ap (λ z. k.Lower x.text ∷ z) (args_each xs a.expr r);
+  tree =
+      (some_exprs xs a.expr, are_atoms (xs ++ a.expr ∷ []) (atoms_more xs a.expr h i l));
+  at = refl;
+  kind = refl;
+}
 closes_fine (frame.in_just s) a h i l = record { text = λ r. refl; tree = (i, l); at = refl; kind = refl }
 closes_fine (frame.in_many o b n) a h i l = record { text = λ r. refl; tree = (h, i, l); at = refl; kind = refl }
 closes_fine (frame.in_optional o) a h i l = record { text = λ r. refl; tree = (i, l); at = refl; kind = refl }
 closes_fine _ a h i l = tt
 
 -- another argument
-pub argument_fine : (f : Frame) (x : Tok) (s : Span) (a : Found) (fs : List Frame) → AreFrames (f ∷ fs) → IsExpr a.expr → hole f ≤ level a.expr → Steps (f ∷ fs) (frame.have a) x (option_and_then (λ g. begin x s (g ∷ fs)) (with_argument f a))
+pub argument_fine : (f : Frame) (x : Tok) (s : Span) (a : Found) (fs : List Frame) → AreFrames (f ∷ fs) → IsExpr a.expr → hole f ≤ level a.expr
+    → Steps (f ∷ fs) (frame.have a) x (option_and_then (λ g. begin x s (g ∷ fs)) (with_argument f a))
 argument_fine (frame.in_call_grammar y xs n) x s a fs h i l =
     let g = frame.in_call_grammar y (xs ++ a.expr ∷ []) (max n a.deep) in
-    shift (g ∷ fs) (frame.in_call_grammar y xs n ∷ fs) frame.want (frame.have a) x (begin x s (g ∷ fs)) (λ r. ap (λ z. read fs (k.Upper y.text ∷ z)) (each_arg_more xs a.expr (x ∷ r))) (begin_fine x s (g ∷ fs) (atoms_more xs a.expr h.0 i l, h.1, h.2, tt, h.4) refl)
+    shift (g ∷ fs) (frame.in_call_grammar y xs n ∷ fs) frame.want (frame.have a) x (begin x s (g ∷ fs)) (λ r.
+    ap (λ z. read fs (k.Upper y.text ∷ z)) (each_arg_more xs a.expr (x ∷ r)))
+    (begin_fine x s (g ∷ fs) (atoms_more xs a.expr h.0 i l, h.1, h.2, tt, h.4) refl)
 argument_fine (frame.in_call_value y xs n) x s a fs h i l =
     let g = frame.in_call_value y (xs ++ a.expr ∷ []) (max n a.deep) in
-    shift (g ∷ fs) (frame.in_call_value y xs n ∷ fs) frame.want (frame.have a) x (begin x s (g ∷ fs)) (λ r. ap (λ z. read fs (k.Lower y.text ∷ z)) (each_arg_more xs a.expr (x ∷ r))) (begin_fine x s (g ∷ fs) (atoms_more xs a.expr h.0 i l, h.1, h.2, tt, h.4) refl)
+    shift (g ∷ fs) (frame.in_call_value y xs n ∷ fs) frame.want (frame.have a) x (begin x s (g ∷ fs)) (λ r.
+    ap (λ z. read fs (k.Lower y.text ∷ z)) (each_arg_more xs a.expr (x ∷ r)))
+    (begin_fine x s (g ∷ fs) (atoms_more xs a.expr h.0 i l, h.1, h.2, tt, h.4) refl)
 argument_fine (frame.in_many o ex.Free n) x s a fs h i l =
     let g = frame.in_many o (ex.Exactly a.expr) a.deep in
-    shift (g ∷ fs) (frame.in_many o ex.Free n ∷ fs) frame.want (frame.have a) x (begin x s (g ∷ fs)) (λ r. refl) (begin_fine x s (g ∷ fs) ((i, l), h.1, h.2, tt, h.4) refl)
+    shift (g ∷ fs) (frame.in_many o ex.Free n ∷ fs) frame.want (frame.have a) x (begin x s (g ∷ fs)) (λ r.
+    refl) (begin_fine x s (g ∷ fs) ((i, l), h.1, h.2, tt, h.4) refl)
 argument_fine _ x s a fs h i l = tt

@@ -19,7 +19,8 @@ use Rattle.ddl_reader.specs.Frames.{Frame, Focus, State, Found, FoundType, Found
 use Rattle.ddl_reader.specs.Frames as frame
 use Rattle.ddl_reader.specs.StepType.{joined}
 use Rattle.ddl_reader.specs.StepExpr.{least}
-use Rattle.ddl_reader.specs.StepType.{type_done, type_word, begin_type, width_uint, width_sint, close_empty, after_element, after_map_value, after_within, number_at}
+use Rattle.ddl_reader.specs.StepType.{type_done, type_word, begin_type, width_uint, width_sint, close_empty, after_element, after_map_value, after_within}
+use Rattle.ddl_reader.specs.StepType.{number_at}
 use Rattle.ddl_reader.specs.StepClass.{class_done, begin_class, last_byte, after_grouped, after_class_set}
 use Rattle.ddl_reader.proofs.Fits.{wanted, AreFrames, Reads, Steps, least_small}
 
@@ -44,7 +45,8 @@ type_done_fine (_ ∷ fs) t n a h = absurd (omega arith)
 same_text : (x y : List ℕ) → bytes_eq x y ≡ true → x ≡ y
 same_text x y e = (bytes_eq-Decides x y).0 e
 
-word_case : (x y : List ℕ) (fs : List Frame) (z o : Option State) → Steps fs frame.want_type (k.Lower y) z → Steps fs frame.want_type (k.Lower x) o → Steps fs frame.want_type (k.Lower x) (cond (bytes_eq x y) z o)
+word_case : (x y : List ℕ) (fs : List Frame) (z o : Option State) → Steps fs frame.want_type (k.Lower y) z → Steps fs frame.want_type (k.Lower x) o
+    → Steps fs frame.want_type (k.Lower x) (cond (bytes_eq x y) z o)
 word_case x y fs z o h g =
     elim (bytes_eq x y) as (λ b. bytes_eq x y ≡ b → Steps fs frame.want_type (k.Lower x) (cond b z o)) [
       | true ↦ λ e. subst (λ v. Steps fs frame.want_type (k.Lower v) z) (sym (same_text x y e)) h
@@ -82,22 +84,26 @@ pub close_empty_fine : (x : Tok) (s from : Span) (fs : List Frame) → AreFrames
 close_empty_fine (k.Mark m.CloseBrace) s from fs a h = type_done_fine fs (ty.Empty (joined from s)) 1 a h
 close_empty_fine _ s from fs a h = tt
 
-pub after_element_fine : (x : Tok) (s from : Span) (t : FoundType) (fs : List Frame) → AreFrames fs → wanted fs ≡ 2 → Steps (frame.in_bracket from ∷ fs) (frame.have_type t) x (after_element x s from t fs)
+pub after_element_fine : (x : Tok) (s from : Span) (t : FoundType) (fs : List Frame) → AreFrames fs → wanted fs ≡ 2
+    → Steps (frame.in_bracket from ∷ fs) (frame.have_type t) x (after_element x s from t fs)
 after_element_fine (k.Mark m.CloseBracket) s from t fs a h = type_done_fine fs (ty.ArrayOf t.type (joined from s)) (1 + t.deep) a h
 after_element_fine (k.Mark m.Arrow) s from t fs a h = ((λ r. refl), (tt, h, small fs, tt, a), refl)
 after_element_fine _ s from t fs a h = tt
 
-pub after_map_value_fine : (x : Tok) (s from : Span) (t u : FoundType) (fs : List Frame) → AreFrames fs → wanted fs ≡ 2 → Steps (frame.in_map_value from t ∷ fs) (frame.have_type u) x (after_map_value x s from t u fs)
+pub after_map_value_fine : (x : Tok) (s from : Span) (t u : FoundType) (fs : List Frame) → AreFrames fs → wanted fs ≡ 2
+    → Steps (frame.in_map_value from t ∷ fs) (frame.have_type u) x (after_map_value x s from t u fs)
 after_map_value_fine (k.Mark m.CloseBracket) s from t u fs a h = type_done_fine fs (ty.MapOf t.type u.type (joined from s)) (1 + max t.deep u.deep) a h
 after_map_value_fine _ s from t u fs a h = tt
 
-pub after_within_fine : (x : Tok) (s from : Span) (t : FoundType) (fs : List Frame) → AreFrames fs → wanted fs ≡ 2 → Steps (frame.in_within from ∷ fs) (frame.have_type t) x (after_within x s from t fs)
+pub after_within_fine : (x : Tok) (s from : Span) (t : FoundType) (fs : List Frame) → AreFrames fs → wanted fs ≡ 2
+    → Steps (frame.in_within from ∷ fs) (frame.have_type t) x (after_within x s from t fs)
 after_within_fine (k.Mark m.CloseParen) s from t fs a h = type_done_fine fs (ty.Within t.type (joined from s)) (1 + t.deep) a h
 after_within_fine _ s from t fs a h = tt
 
 -- ---- classes
 
-pub class_done_fine : (fs : List Frame) (c : cls.Cls) (n : ℕ) → AreFrames fs → wanted fs ≡ 3 → IsClass c → 2 ≤ class_level c → Reads fs (print_class c) (class_done fs c n)
+pub class_done_fine : (fs : List Frame) (c : cls.Cls) (n : ℕ) → AreFrames fs → wanted fs ≡ 3 → IsClass c → 2 ≤ class_level c
+    → Reads fs (print_class c) (class_done fs c n)
 class_done_fine [] c n a h i l = absurd (omega arith)
 class_done_fine (frame.in_other s ∷ fs) c n a h i l = class_done_fine fs (cls.Other c (joined s (class_span c))) (1 + n) a.4 a.1 (i, l) (omega arith)
 class_done_fine (frame.in_union x ∷ fs) c n a h i l = ((λ r. refl), a.4, ((a.0, i, l), a.3))
@@ -121,12 +127,14 @@ last_byte_fine (k.Number v c d) s b fs a h = class_done_fine fs (cls.Range b (Co
 last_byte_fine (k.Char c) s b fs a h = class_done_fine fs (cls.Range b (Quoted c s) (joined (byte_span b) s)) 1 a h tt (omega arith)
 last_byte_fine _ s b fs a h = tt
 
-pub after_grouped_fine : (x : Tok) (s from : Span) (c : FoundClass) (fs : List Frame) → AreFrames (frame.in_grouped from ∷ fs) → IsClass c.class → Steps (frame.in_grouped from ∷ fs) (frame.have_class c) x (after_grouped x s from c fs)
+pub after_grouped_fine : (x : Tok) (s from : Span) (c : FoundClass) (fs : List Frame) → AreFrames (frame.in_grouped from ∷ fs) → IsClass c.class
+    → Steps (frame.in_grouped from ∷ fs) (frame.have_class c) x (after_grouped x s from c fs)
 after_grouped_fine (k.Mark m.CloseParen) s from c fs a i = class_done_fine fs (cls.Grouped c.class (joined from s)) (1 + c.deep) a.4 a.1 i (omega arith)
 after_grouped_fine (k.Mark m.Bar) s from c fs a i = ((λ r. refl), (i, refl, omega arith, tt, a), refl)
 after_grouped_fine _ s from c fs a i = tt
 
-pub after_class_set_fine : (x : Tok) (s from : Span) (c : FoundClass) (fs : List Frame) → AreFrames (frame.in_class_set from ∷ fs) → IsClass c.class → Steps (frame.in_class_set from ∷ fs) (frame.have_class c) x (after_class_set x s from c fs)
+pub after_class_set_fine : (x : Tok) (s from : Span) (c : FoundClass) (fs : List Frame) → AreFrames (frame.in_class_set from ∷ fs) → IsClass c.class
+    → Steps (frame.in_class_set from ∷ fs) (frame.have_class c) x (after_class_set x s from c fs)
 after_class_set_fine (k.Mark m.CloseBracket) s from c fs a i = class_done_fine fs (cls.Set c.class (joined from s)) (1 + c.deep) a.4 a.1 i (omega arith)
 after_class_set_fine (k.Mark m.Bar) s from c fs a i = ((λ r. refl), (i, refl, omega arith, tt, a), refl)
 after_class_set_fine _ s from c fs a i = tt

@@ -230,7 +230,8 @@ Steps fs f x None = Unit {0}
 Steps fs f x (Some z) = Reads fs (λ r. here f (x ∷ r)) z
 
 -- what goes on from one state goes on from another that has read the same
-pub shift : (fs gs : List Frame) (f g : Focus) (x : Tok) (o : Option State) → ((r : List Tok) → read fs (here f (x ∷ r)) ≡ read gs (here g (x ∷ r))) → Steps fs f x o → Steps gs g x o
+pub shift : (fs gs : List Frame) (f g : Focus) (x : Tok) (o : Option State) → ((r : List Tok) → read fs (here f (x ∷ r)) ≡ read gs (here g (x ∷ r)))
+    → Steps fs f x o → Steps gs g x o
 shift fs gs f g x None e h = tt
 shift fs gs f g x (Some z) e h = ((λ r. h.0 r ∙ e r), h.1, h.2)
 

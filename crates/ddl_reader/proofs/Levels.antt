@@ -44,7 +44,8 @@ expr_read a p fs r = run (seen r (place a p).1) (fs, frame.have (found (place a 
 
 -- the machine reads the expression wherever its nonterminal fits
 abbrev pub Completes : ex.Expr → Type 0
-Completes a = (fs : List Frame) (r : List Tok) (p : Places) → least fs ≤ level a → first_binds r < limit a → run (seen (print a r) p) (fs, frame.want) ≡ expr_read a p fs r
+Completes a = (fs : List Frame) (r : List Tok) (p : Places) → least fs ≤ level a → first_binds r < limit a
+    → run (seen (print a r) p) (fs, frame.want) ≡ expr_read a p fs r
 
 -- ---- operators
 
@@ -96,7 +97,8 @@ infix_extends op.Multiply s a fs = refl
 infix_extends op.Divide s a fs = refl
 infix_extends op.Remainder s a fs = refl
 
-pub op_fits : (o : InfixOp) → (1 ≤ infix_level o) × (infix_level o ≤ 13) × (infix_level o ≤ left_level o) × (infix_level o ≤ right_level o) × (right_level o ≤ 14)
+pub op_fits : (o : InfixOp) → (1 ≤ infix_level o) × (infix_level o ≤ 13) × (infix_level o ≤ left_level o) × (infix_level o ≤ right_level o)
+    × (right_level o ≤ 14)
 op_fits op.Either = (omega arith, omega arith, omega arith, omega arith, omega arith)
 op_fits op.OrElse = (omega arith, omega arith, omega arith, omega arith, omega arith)
 op_fits op.Or = (omega arith, omega arith, omega arith, omega arith, omega arith)
@@ -366,11 +368,14 @@ is_above n a z h = ap (λ t. cond t (Some z) None) (le_true n (level a.expr) h)
 pub step_extends : (fs : List Frame) (a : Found) (x : Tok) (s : Span) → least fs ≤ binds x → step_have fs a x s ≡ extend x s a fs
 step_extends [] a x s h = ap (λ t. cond t (extend x s a []) None) (le_true 1 (binds x) h)
 step_extends (f ∷ fs) a x s h =
-    ap (λ t. cond t (extend x s a (f ∷ fs)) (cond (nat_eq (binds x) 16) (argue f x s a fs) (closed (closes f a) (λ b. step_have fs b x s) (passes f x s a fs)))) (le_true (hole f) (binds x) h)
+    ap (λ t. cond t (extend x s a (f ∷ fs)) (cond (nat_eq (binds x) 16) (argue f x s a fs) (closed (closes f a) (λ b. step_have fs b x s) (passes f x s a fs))))
+    (le_true (hole f) (binds x) h)
 
-step_closes : (f : Frame) (fs : List Frame) (a u : Found) (x : Tok) (s : Span) → closes f a ≡ Some u → binds x < hole f → binds x < 16 → step_have (f ∷ fs) a x s ≡ step_have fs u x s
+step_closes : (f : Frame) (fs : List Frame) (a u : Found) (x : Tok) (s : Span) → closes f a ≡ Some u → binds x < hole f → binds x < 16
+    → step_have (f ∷ fs) a x s ≡ step_have fs u x s
 step_closes f fs a u x s e h i =
-    ap (λ t. cond t (extend x s a (f ∷ fs)) (cond (nat_eq (binds x) 16) (argue f x s a fs) (closed (closes f a) (λ b. step_have fs b x s) (passes f x s a fs)))) (gt_false (hole f) (binds x) h)
+    ap (λ t. cond t (extend x s a (f ∷ fs)) (cond (nat_eq (binds x) 16) (argue f x s a fs) (closed (closes f a) (λ b. step_have fs b x s) (passes f x s a fs))))
+    (gt_false (hole f) (binds x) h)
     ∙ ap (λ t. cond t (argue f x s a fs) (closed (closes f a) (λ b. step_have fs b x s) (passes f x s a fs))) (lt_no_eq (binds x) 16 i)
     ∙ ap (λ o. closed o (λ b. step_have fs b x s) (passes f x s a fs)) e
 
@@ -380,9 +385,11 @@ pub close_right : (f : Frame) (fs : List Frame) (a u : Found) (r : List Tok) (p 
 close_right f fs a u [] p e h i = ap (λ o. finished o (λ b. finish_have fs b) (finish_body f a fs)) e
 close_right f fs a u (x ∷ xs) p e h i = ap (goes (run (seen xs (after p)))) (step_closes f fs a u x (next p) e h i)
 
-pub step_argues : (f g : Frame) (fs : List Frame) (a : Found) (x : Tok) (s : Span) → with_argument f a ≡ Some g → hole f ≡ 17 → binds x ≡ 16 → step_have (f ∷ fs) a x s ≡ begin x s (g ∷ fs)
+pub step_argues : (f g : Frame) (fs : List Frame) (a : Found) (x : Tok) (s : Span) → with_argument f a ≡ Some g → hole f ≡ 17 → binds x ≡ 16
+    → step_have (f ∷ fs) a x s ≡ begin x s (g ∷ fs)
 step_argues f g fs a x s e h i =
     let more : binds x < hole f = omega arith in
-    ap (λ t. cond t (extend x s a (f ∷ fs)) (cond (nat_eq (binds x) 16) (argue f x s a fs) (closed (closes f a) (λ b. step_have fs b x s) (passes f x s a fs)))) (gt_false (hole f) (binds x) more)
+    ap (λ t. cond t (extend x s a (f ∷ fs)) (cond (nat_eq (binds x) 16) (argue f x s a fs) (closed (closes f a) (λ b. step_have fs b x s) (passes f x s a fs))))
+    (gt_false (hole f) (binds x) more)
     ∙ ap (λ t. cond t (argue f x s a fs) (closed (closes f a) (λ b. step_have fs b x s) (passes f x s a fs))) (eq_true (binds x) 16 i)
     ∙ ap (option_and_then (λ g. begin x s (g ∷ fs))) e

@@ -5,9 +5,14 @@ use Rattle.ddl_tree.specs.TypeTree as ty
 use Rattle.ddl_tree.specs.ClassTree as cls
 use Rattle.ddl_tree.specs.ExprTree as ex
 use Rattle.ddl_tree.specs.ModuleTree as mo
-use Rattle.ddl_tree.specs.Depth.{type_depth, typed_depth, class_depth, depth, bound_depth, alternatives_depth, item_depth, exprs_depth, bindings_depth, items_depth, alts_depth, param_depth, params_depth, part_depth, parts_depth, bits_depth, cons_depth, decl_depth, decls_depth, module_depth}
-use Rattle.ddl_tree.specs.Spans.{Places, nowhere, after, place_type, place_typed, place_class, place_pattern, place_names, place, place_bound, place_alternatives, place_item, place_exprs, place_row, place_more_exprs, place_bindings, place_more_bindings, place_items, place_more_items, place_alts, place_more_alts}
-use Rattle.ddl_tree.specs.SpansModule.{place_param, place_params, place_part, place_more_parts, place_parts, place_bits, place_con, place_more_cons, place_cons, place_decl, place_decls, place_imports, placed}
+use Rattle.ddl_tree.specs.Depth.{type_depth, typed_depth, class_depth, depth, bound_depth, alternatives_depth, item_depth, exprs_depth, bindings_depth}
+use Rattle.ddl_tree.specs.Depth.{items_depth, alts_depth, param_depth, params_depth, part_depth, parts_depth, bits_depth, cons_depth, decl_depth, decls_depth}
+use Rattle.ddl_tree.specs.Depth.{module_depth}
+use Rattle.ddl_tree.specs.Spans.{Places, nowhere, after, place_type, place_typed, place_class, place_pattern, place_names, place, place_bound}
+use Rattle.ddl_tree.specs.Spans.{place_alternatives, place_item, place_exprs, place_row, place_more_exprs, place_bindings, place_more_bindings, place_items}
+use Rattle.ddl_tree.specs.Spans.{place_more_items, place_alts, place_more_alts}
+use Rattle.ddl_tree.specs.SpansModule.{place_param, place_params, place_part, place_more_parts, place_parts, place_bits, place_con, place_more_cons, place_cons}
+use Rattle.ddl_tree.specs.SpansModule.{place_decl, place_decls, place_imports, placed}
 
 type_placed : (t : ty.TypeExpr) (p : Places) → type_depth (place_type t p).0 ≡ type_depth t
 type_placed (ty.Maybe t s) p = let x = type_placed t (after p) in omega arith
@@ -111,11 +116,13 @@ mutual
 
   bindings_placed : (bs : ex.Bindings) (p : Places) → bindings_depth (place_bindings bs p).0 ≡ bindings_depth bs
   bindings_placed ex.no_bindings p = refl
-  bindings_placed (ex.a_binding n a s bs) p = let x = expr_placed a (after (after p)) in let y = more_bindings_placed bs (place a (after (after p))).1 in omega arith
+  bindings_placed (ex.a_binding n a s bs) p = let x = expr_placed a (after (after p)) in let y = more_bindings_placed bs (place a (after (after p))).1
+      in omega arith
 
   more_bindings_placed : (bs : ex.Bindings) (p : Places) → bindings_depth (place_more_bindings bs p).0 ≡ bindings_depth bs
   more_bindings_placed ex.no_bindings p = refl
-  more_bindings_placed (ex.a_binding n a s bs) p = let x = expr_placed a (after (after (after p))) in let y = more_bindings_placed bs (place a (after (after (after p)))).1 in omega arith
+  more_bindings_placed (ex.a_binding n a s bs) p = let x = expr_placed a (after (after (after p))) in let y =
+      more_bindings_placed bs (place a (after (after (after p)))).1 in omega arith
 
   items_placed : (is : ex.Items) (p : Places) → items_depth (place_items is p).0 ≡ items_depth is
   items_placed ex.no_items p = refl

@@ -13,7 +13,8 @@ use Rattle.ddl_tree.specs.declared.operator.Bias.TheVariants.{Biased, Unbiased}
 use Rattle.ddl_tree.specs.ExprTree as ex
 use Rattle.ddl_tree.specs.ExprTree.{expr_span}
 use Rattle.ddl_tree.specs.View.{exprs_of}
-use Rattle.ddl_tree.specs.Print.{print, print_class, print_typed, print_exprs, print_bindings, print_items, print_alternatives, print_alts, print_args, print_bound, many_token, optional_token}
+use Rattle.ddl_tree.specs.Print.{print, print_class, print_typed, print_exprs, print_bindings, print_items, print_alternatives, print_alts, print_args}
+use Rattle.ddl_tree.specs.Print.{print_bound, many_token, optional_token}
 use Rattle.ddl_tree.specs.Grammar.{level, IsExpr, AreAtoms, SomeExprs}
 use Rattle.ddl_tree.specs.Depth.{depth, exprs_depth, bound_depth}
 use Rattle.ddl_tree.specs.Spans.{Places, next, after, between, place, place_name, place_exprs, place_bound}
@@ -36,7 +37,8 @@ SameOnAtoms z y = (x : Tok) (s : Span) → binds x ≡ 16 → step_at z.1 z.0 x 
 first_token : (x : Tok) (xs : List Tok) (p : Places) (z y : State) → SameOnAtoms z y → binds x ≡ 16 → run (seen (x ∷ xs) p) z ≡ run (seen (x ∷ xs) p) y
 first_token x xs p z y same h = ap (goes (run (seen xs (after p)))) (same x (next p) h)
 
-starts : (a : ex.Expr) → IsExpr a → 17 ≤ level a → (z y : State) → SameOnAtoms z y → (r : List Tok) (p : Places) → run (seen (print a r) p) z ≡ run (seen (print a r) p) y
+starts : (a : ex.Expr) → IsExpr a → 17 ≤ level a → (z y : State) → SameOnAtoms z y → (r : List Tok) (p : Places)
+    → run (seen (print a r) p) z ≡ run (seen (print a r) p) y
 starts (ex.Select a x s) i l z y same r p = starts a i.0 i.1 z y same (k.Mark m.Dot ∷ k.Lower x.text ∷ r) p
 starts (ex.Num n) i l z y same r p = first_token _ r p z y same refl
 starts (ex.Char b s) i l z y same r p = first_token _ r p z y same refl
@@ -52,11 +54,15 @@ starts (ex.Paren a t s) i l z y same r p = first_token (k.Mark m.OpenParen) (pri
 starts (ex.Array xs s) i l z y same r p = first_token (k.Mark m.OpenBracket) (print_exprs xs m.Comma (k.Mark m.CloseBracket ∷ r)) p z y same refl
 starts (ex.RecordOf bs s) i l z y same r p = first_token (k.Mark m.OpenBrace) (print_bindings bs m.Comma (k.Mark m.CloseBrace ∷ r)) p z y same refl
 starts (ex.Tag x s) i l z y same r p = first_token (k.Mark m.OpenUnion) (k.Lower x.text ∷ k.Mark m.CloseUnion ∷ r) p z y same refl
-starts (ex.TagWith x a s) i l z y same r p = first_token (k.Mark m.OpenUnion) (k.Lower x.text ∷ k.Mark m.Equals ∷ print a (k.Mark m.CloseUnion ∷ r)) p z y same refl
+starts (ex.TagWith x a s) i l z y same r p = first_token (k.Mark m.OpenUnion) (k.Lower x.text ∷ k.Mark m.Equals ∷ print a (k.Mark m.CloseUnion ∷ r)) p z y same
+    refl
 starts (ex.Block is s) i l z y same r p = first_token (k.Word w.Block) (k.Mark m.OpenBrace ∷ print_items is (k.Mark m.CloseBrace ∷ r)) p z y same refl
-starts (ex.Choice Biased xs s) i l z y same r p = first_token (k.Word w.First) (k.Mark m.OpenBrace ∷ print_alternatives xs (k.Mark m.CloseBrace ∷ r)) p z y same refl
-starts (ex.Choice Unbiased xs s) i l z y same r p = first_token (k.Word w.Choose) (k.Mark m.OpenBrace ∷ print_alternatives xs (k.Mark m.CloseBrace ∷ r)) p z y same refl
-starts (ex.Case a xs s) i l z y same r p = first_token (k.Word w.Case) (print a (k.Word w.Of ∷ k.Mark m.OpenBrace ∷ print_alts xs (k.Mark m.CloseBrace ∷ r))) p z y same refl
+starts (ex.Choice Biased xs s) i l z y same r p = first_token (k.Word w.First) (k.Mark m.OpenBrace ∷ print_alternatives xs (k.Mark m.CloseBrace ∷ r)) p z y same
+    refl
+starts (ex.Choice Unbiased xs s) i l z y same r p = first_token (k.Word w.Choose) (k.Mark m.OpenBrace ∷ print_alternatives xs (k.Mark m.CloseBrace ∷ r)) p z y
+    same refl
+starts (ex.Case a xs s) i l z y same r p = first_token (k.Word w.Case) (print a (k.Word w.Of ∷ k.Mark m.OpenBrace ∷ print_alts xs (k.Mark m.CloseBrace ∷ r))) p
+    z y same refl
 starts (ex.Infix o a b s) i l z y same r p = let fits = op_fits o in absurd (omega arith)
 starts (ex.Pure a s) i l z y same r p = absurd (omega arith)
 starts (ex.If c a b s) i l z y same r p = absurd (omega arith)
@@ -140,53 +146,86 @@ args_small (ex.Just a s) i l r = absurd (omega arith)
 args_small (ex.Many o n a s) i l r = absurd (omega arith)
 args_small (ex.Optional o a s) i l r = absurd (omega arith)
 
-args_of_grammar : (xs : ex.Exprs) → AreAtoms xs → AllComplete xs → (c : Name) (pre : List ex.Expr) (n : ℕ) (a : ex.Expr) (p : Places) → Completes a → IsExpr a → 17 ≤ level a → (fs : List Frame) (r : List Tok) → first_binds r < 16
+args_of_grammar : (xs : ex.Exprs) → AreAtoms xs → AllComplete xs → (c : Name) (pre : List ex.Expr) (n : ℕ) (a : ex.Expr) (p : Places) → Completes a → IsExpr a
+    → 17 ≤ level a → (fs : List Frame) (r : List Tok) → first_binds r < 16
     → let x = place a p in let y = place_exprs xs x.1 in
     run (seen (print a (print_args xs r)) p) (frame.in_call_grammar c pre n ∷ fs, frame.want)
-    ≡ run (seen r y.1) (fs, frame.have (found (ex.CallGrammar c (exprs_of (pre ++ x.0 ∷ listed y.0)) (joined c.span (between p y.1))) (1 + max (max n (depth a)) (exprs_depth xs))))
+    ≡ run (seen r y.1) (
+      fs,
+      frame.have (found (ex.CallGrammar c (exprs_of (pre ++ x.0 ∷ listed y.0)) (joined c.span (between p y.1)))
+          (1 + max (max n (depth a)) (exprs_depth xs))),
+    )
 args_of_grammar ex.no_exprs atoms all c pre n a p one i l fs r stop =
     let x = place a p in
     let ends = atom_limit a l in
     one (frame.in_call_grammar c pre n ∷ fs) r p l (omega arith)
-    ∙ close_right (frame.in_call_grammar c pre n) fs (found x.0 (depth a)) (found (ex.CallGrammar c (exprs_of (pre ++ x.0 ∷ [])) (joined c.span (expr_span x.0))) (1 + max n (depth a))) r x.1 refl (omega arith) stop
-    ∙ ap (λ s. run (seen r x.1) (fs, frame.have (found (ex.CallGrammar c (exprs_of (pre ++ x.0 ∷ [])) (joined c.span s)) (1 + max n (depth a))))) (expr_span_placed a p)
-    ∙ ap (λ d. run (seen r x.1) (fs, frame.have (found (ex.CallGrammar c (exprs_of (pre ++ x.0 ∷ [])) (joined c.span (between p x.1))) (1 + d)))) (max_none (max n (depth a)))
+    ∙ close_right (frame.in_call_grammar c pre n) fs (found x.0 (depth a))
+    (found (ex.CallGrammar c (exprs_of (pre ++ x.0 ∷ [])) (joined c.span (expr_span x.0))) (1 + max n (depth a))) r x.1 refl (omega arith) stop
+    ∙ ap (λ s. run (seen r x.1) (fs, frame.have (found (ex.CallGrammar c (exprs_of (pre ++ x.0 ∷ [])) (joined c.span s)) (1 + max n (depth a)))))
+    (expr_span_placed a p)
+    ∙ ap (λ d. run (seen r x.1) (fs, frame.have (found (ex.CallGrammar c (exprs_of (pre ++ x.0 ∷ [])) (joined c.span (between p x.1))) (1 + d))))
+    (max_none (max n (depth a)))
 args_of_grammar (ex.an_expr b xs) atoms all c pre n a p one i l fs r stop =
     let x = place a p in
     let y = place_exprs (ex.an_expr b xs) x.1 in
     let ends = atom_limit a l in
     let small = args_small b atoms.0 atoms.1 (print_args xs r) in
     one (frame.in_call_grammar c pre n ∷ fs) (print b (print_args xs r)) p l (omega arith)
-    ∙ starts b atoms.0 atoms.1 (frame.in_call_grammar c pre n ∷ fs, frame.have (found x.0 (depth a))) (frame.in_call_grammar c (pre ++ x.0 ∷ []) (max n (depth a)) ∷ fs, frame.want)
-    (same_more (frame.in_call_grammar c pre n) (frame.in_call_grammar c (pre ++ x.0 ∷ []) (max n (depth a))) (found x.0 (depth a)) fs refl refl) (print_args xs r) x.1
+    ∙ starts b atoms.0 atoms.1 (frame.in_call_grammar c pre n ∷ fs, frame.have (found x.0 (depth a)))
+    (frame.in_call_grammar c (pre ++ x.0 ∷ []) (max n (depth a)) ∷ fs, frame.want)
+    (same_more (frame.in_call_grammar c pre n) (frame.in_call_grammar c (pre ++ x.0 ∷ []) (max n (depth a))) (found x.0 (depth a)) fs refl refl)
+    (print_args xs r) x.1
     ∙ args_of_grammar xs atoms.2 all.1 c (pre ++ x.0 ∷ []) (max n (depth a)) b x.1 all.0 atoms.0 atoms.1 fs r stop
-    ∙ ap (λ ys. run (seen r y.1) (fs, frame.have (found (ex.CallGrammar c (exprs_of ys) (joined c.span (between x.1 y.1))) (1 + max (max (max n (depth a)) (depth b)) (exprs_depth xs))))) (append_assoc pre (x.0 ∷ []) (listed y.0))
-    ∙ ap (λ d. run (seen r y.1) (fs, frame.have (found (ex.CallGrammar c (exprs_of (pre ++ x.0 ∷ listed y.0)) (joined c.span (between p y.1))) (1 + d)))) (max_more (max n (depth a)) (depth b) (exprs_depth xs))
+    ∙ ap (λ ys. run (seen r y.1) (
+      fs,
+      frame.have (found (ex.CallGrammar c (exprs_of ys) (joined c.span (between x.1 y.1)))
+          (1 + max (max (max n (depth a)) (depth b)) (exprs_depth xs))),
+    )) (append_assoc pre (x.0 ∷ []) (listed y.0))
+    ∙ ap (λ d. run (seen r y.1) (fs, frame.have (found (ex.CallGrammar c (exprs_of (pre ++ x.0 ∷ listed y.0)) (joined c.span (between p y.1))) (1 + d))))
+    (max_more (max n (depth a)) (depth b) (exprs_depth xs))
 
 -- ---- arguments of a function
 
-args_of_value : (xs : ex.Exprs) → AreAtoms xs → AllComplete xs → (c : Name) (pre : List ex.Expr) (n : ℕ) (a : ex.Expr) (p : Places) → Completes a → IsExpr a → 17 ≤ level a → (fs : List Frame) (r : List Tok) → first_binds r < 16
+args_of_value : (xs : ex.Exprs) → AreAtoms xs → AllComplete xs → (c : Name) (pre : List ex.Expr) (n : ℕ) (a : ex.Expr) (p : Places) → Completes a → IsExpr a
+    → 17 ≤ level a → (fs : List Frame) (r : List Tok) → first_binds r < 16
     → let x = place a p in let y = place_exprs xs x.1 in
     run (seen (print a (print_args xs r)) p) (frame.in_call_value c pre n ∷ fs, frame.want)
-    ≡ run (seen r y.1) (fs, frame.have (found (ex.CallValue c (exprs_of (pre ++ x.0 ∷ listed y.0)) (joined c.span (between p y.1))) (1 + max (max n (depth a)) (exprs_depth xs))))
+    ≡ run (seen r y.1) (
+      fs,
+      frame.have (found (ex.CallValue c (exprs_of (pre ++ x.0 ∷ listed y.0)) (joined c.span (between p y.1)))
+          (1 + max (max n (depth a)) (exprs_depth xs))),
+    )
 args_of_value ex.no_exprs atoms all c pre n a p one i l fs r stop =
     let x = place a p in
     let ends = atom_limit a l in
     one (frame.in_call_value c pre n ∷ fs) r p l (omega arith)
-    ∙ close_right (frame.in_call_value c pre n) fs (found x.0 (depth a)) (found (ex.CallValue c (exprs_of (pre ++ x.0 ∷ [])) (joined c.span (expr_span x.0))) (1 + max n (depth a))) r x.1 refl (omega arith) stop
-    ∙ ap (λ s. run (seen r x.1) (fs, frame.have (found (ex.CallValue c (exprs_of (pre ++ x.0 ∷ [])) (joined c.span s)) (1 + max n (depth a))))) (expr_span_placed a p)
-    ∙ ap (λ d. run (seen r x.1) (fs, frame.have (found (ex.CallValue c (exprs_of (pre ++ x.0 ∷ [])) (joined c.span (between p x.1))) (1 + d)))) (max_none (max n (depth a)))
+    ∙ close_right (frame.in_call_value c pre n) fs (found x.0 (depth a))
+    (found (ex.CallValue c (exprs_of (pre ++ x.0 ∷ [])) (joined c.span (expr_span x.0))) (1 + max n (depth a))) r x.1 refl (omega arith) stop
+    ∙ ap (λ s. run (seen r x.1) (fs, frame.have (found (ex.CallValue c (exprs_of (pre ++ x.0 ∷ [])) (joined c.span s)) (1 + max n (depth a)))))
+    (expr_span_placed a p)
+    ∙ ap (λ d. run (seen r x.1) (fs, frame.have (found (ex.CallValue c (exprs_of (pre ++ x.0 ∷ [])) (joined c.span (between p x.1))) (1 + d))))
+    (max_none (max n (depth a)))
 args_of_value (ex.an_expr b xs) atoms all c pre n a p one i l fs r stop =
     let x = place a p in
     let y = place_exprs (ex.an_expr b xs) x.1 in
     let ends = atom_limit a l in
     let small = args_small b atoms.0 atoms.1 (print_args xs r) in
     one (frame.in_call_value c pre n ∷ fs) (print b (print_args xs r)) p l (omega arith)
-    ∙ starts b atoms.0 atoms.1 (frame.in_call_value c pre n ∷ fs, frame.have (found x.0 (depth a))) (frame.in_call_value c (pre ++ x.0 ∷ []) (max n (depth a)) ∷ fs, frame.want)
-    (same_more (frame.in_call_value c pre n) (frame.in_call_value c (pre ++ x.0 ∷ []) (max n (depth a))) (found x.0 (depth a)) fs refl refl) (print_args xs r) x.1
+    ∙ starts b atoms.0 atoms.1 (frame.in_call_value c pre n ∷ fs, frame.have (found x.0 (depth a))) (
+      frame.in_call_value c (pre ++ x.0 ∷ []) (max n (depth a))
+          ∷ fs,
+      frame.want,
+    )
+    (same_more (frame.in_call_value c pre n) (frame.in_call_value c (pre ++ x.0 ∷ []) (max n (depth a))) (found x.0 (depth a)) fs refl refl) (print_args xs r)
+    x.1
     ∙ args_of_value xs atoms.2 all.1 c (pre ++ x.0 ∷ []) (max n (depth a)) b x.1 all.0 atoms.0 atoms.1 fs r stop
-    ∙ ap (λ ys. run (seen r y.1) (fs, frame.have (found (ex.CallValue c (exprs_of ys) (joined c.span (between x.1 y.1))) (1 + max (max (max n (depth a)) (depth b)) (exprs_depth xs))))) (append_assoc pre (x.0 ∷ []) (listed y.0))
-    ∙ ap (λ d. run (seen r y.1) (fs, frame.have (found (ex.CallValue c (exprs_of (pre ++ x.0 ∷ listed y.0)) (joined c.span (between p y.1))) (1 + d)))) (max_more (max n (depth a)) (depth b) (exprs_depth xs))
+    ∙ ap (λ ys. run (seen r y.1) (
+      fs,
+      frame.have (found (ex.CallValue c (exprs_of ys) (joined c.span (between x.1 y.1)))
+          (1 + max (max (max n (depth a)) (depth b)) (exprs_depth xs))),
+    )) (append_assoc pre (x.0 ∷ []) (listed y.0))
+    ∙ ap (λ d. run (seen r y.1) (fs, frame.have (found (ex.CallValue c (exprs_of (pre ++ x.0 ∷ listed y.0)) (joined c.span (between p y.1))) (1 + d))))
+    (max_more (max n (depth a)) (depth b) (exprs_depth xs))
 
 pub completes_call_grammar : (c : Name) (xs : ex.Exprs) (s : Span) → SomeExprs xs → AreAtoms xs → AllComplete xs → Completes (ex.CallGrammar c xs s)
 completes_call_grammar c ex.no_exprs s some atoms all fs r p lev lim = absurd some
@@ -195,9 +234,13 @@ completes_call_grammar c (ex.an_expr a xs) s some atoms all fs r p lev lim =
     let x = place a (after p) in
     let y = place_exprs xs x.1 in
     let stop : first_binds r < 16 = lim in
-    starts a atoms.0 atoms.1 (fs, frame.have (found (ex.Upper n) 1)) (frame.in_call_grammar n [] 0 ∷ fs, frame.want) (same_first (found (ex.Upper n) 1) (frame.in_call_grammar n [] 0) fs refl lev) (print_args xs r) (after p)
+    starts a atoms.0 atoms.1 (fs, frame.have (found (ex.Upper n) 1)) (
+      frame.in_call_grammar n [] 0 ∷ fs,
+      frame.want,
+    ) (same_first (found (ex.Upper n) 1) (frame.in_call_grammar n [] 0) fs refl lev) (print_args xs r) (after p)
     ∙ args_of_grammar xs atoms.2 all.1 n [] 0 a (after p) all.0 atoms.0 atoms.1 fs r stop
-    ∙ ap (λ ys. run (seen r y.1) (fs, frame.have (found (ex.CallGrammar n (ex.an_expr x.0 ys) (between p y.1)) (1 + max (max 0 (depth a)) (exprs_depth xs))))) (listed_back y.0)
+    ∙ ap (λ ys. run (seen r y.1) (fs, frame.have (found (ex.CallGrammar n (ex.an_expr x.0 ys) (between p y.1)) (1 + max (max 0 (depth a)) (exprs_depth xs)))))
+    (listed_back y.0)
     ∙ ap (λ d. run (seen r y.1) (fs, frame.have (found (ex.CallGrammar n (ex.an_expr x.0 y.0) (between p y.1)) (1 + d)))) (zero_max (depth a) (exprs_depth xs))
 
 pub completes_call_value : (c : Name) (xs : ex.Exprs) (s : Span) → SomeExprs xs → AreAtoms xs → AllComplete xs → Completes (ex.CallValue c xs s)
@@ -207,9 +250,13 @@ completes_call_value c (ex.an_expr a xs) s some atoms all fs r p lev lim =
     let x = place a (after p) in
     let y = place_exprs xs x.1 in
     let stop : first_binds r < 16 = lim in
-    starts a atoms.0 atoms.1 (fs, frame.have (found (ex.Lower n) 1)) (frame.in_call_value n [] 0 ∷ fs, frame.want) (same_first (found (ex.Lower n) 1) (frame.in_call_value n [] 0) fs refl lev) (print_args xs r) (after p)
+    starts a atoms.0 atoms.1 (fs, frame.have (found (ex.Lower n) 1)) (
+      frame.in_call_value n [] 0 ∷ fs,
+      frame.want,
+    ) (same_first (found (ex.Lower n) 1) (frame.in_call_value n [] 0) fs refl lev) (print_args xs r) (after p)
     ∙ args_of_value xs atoms.2 all.1 n [] 0 a (after p) all.0 atoms.0 atoms.1 fs r stop
-    ∙ ap (λ ys. run (seen r y.1) (fs, frame.have (found (ex.CallValue n (ex.an_expr x.0 ys) (between p y.1)) (1 + max (max 0 (depth a)) (exprs_depth xs))))) (listed_back y.0)
+    ∙ ap (λ ys. run (seen r y.1) (fs, frame.have (found (ex.CallValue n (ex.an_expr x.0 ys) (between p y.1)) (1 + max (max 0 (depth a)) (exprs_depth xs)))))
+    (listed_back y.0)
     ∙ ap (λ d. run (seen r y.1) (fs, frame.have (found (ex.CallValue n (ex.an_expr x.0 y.0) (between p y.1)) (1 + d)))) (zero_max (depth a) (exprs_depth xs))
 
 -- ---- just, Optional, Many
@@ -221,7 +268,8 @@ completes_just a s la all fs r p lev lim =
     let stop : first_binds r < 16 = lim in
     go (k.Word w.Just) (print a r) p (fs, frame.want) (frame.in_just (next p) ∷ fs, frame.want) (within 16 fs (frame.in_just (next p) ∷ fs, frame.want) lev)
     ∙ all (frame.in_just (next p) ∷ fs) r (after p) la (omega arith)
-    ∙ close_right (frame.in_just (next p)) fs (found x.0 (depth a)) (found (ex.Just x.0 (joined (next p) (expr_span x.0))) (1 + depth a)) r x.1 refl (omega arith) stop
+    ∙ close_right (frame.in_just (next p)) fs (found x.0 (depth a)) (found (ex.Just x.0 (joined (next p) (expr_span x.0))) (1 + depth a)) r x.1 refl
+    (omega arith) stop
     ∙ ap (λ s. run (seen r x.1) (fs, frame.have (found (ex.Just x.0 s) (1 + depth a)))) (joined_one a p (after p))
 
 optional_step : (b : Bias) (s : Span) (fs : List Frame) → least fs ≤ 16 → begin (optional_token b) s fs ≡ Some (frame.in_optional (repeat b s) ∷ fs, frame.want)
@@ -235,7 +283,8 @@ completes_optional b a s la all fs r p lev lim =
     let stop : first_binds r < 16 = lim in
     go (optional_token b) (print a r) p (fs, frame.want) (frame.in_optional (repeat b (next p)) ∷ fs, frame.want) (optional_step b (next p) fs lev)
     ∙ all (frame.in_optional (repeat b (next p)) ∷ fs) r (after p) la (omega arith)
-    ∙ close_right (frame.in_optional (repeat b (next p))) fs (found x.0 (depth a)) (found (ex.Optional b x.0 (joined (next p) (expr_span x.0))) (1 + depth a)) r x.1 refl (omega arith) stop
+    ∙ close_right (frame.in_optional (repeat b (next p))) fs (found x.0 (depth a)) (found (ex.Optional b x.0 (joined (next p) (expr_span x.0))) (1 + depth a)) r
+    x.1 refl (omega arith) stop
     ∙ ap (λ s. run (seen r x.1) (fs, frame.have (found (ex.Optional b x.0 s) (1 + depth a)))) (joined_one a p (after p))
 
 many_step : (b : Bias) (s : Span) (fs : List Frame) → least fs ≤ 16 → begin (many_token b) s fs ≡ Some (frame.in_many (repeat b s) ex.Free 0 ∷ fs, frame.want)
@@ -243,14 +292,17 @@ many_step Biased s fs h = within 16 fs (frame.in_many (repeat Biased s) ex.Free 
 many_step Unbiased s fs h = within 16 fs (frame.in_many (repeat Unbiased s) ex.Free 0 ∷ fs, frame.want) h
 
 -- what is repeated, after its bound
-many_body : (o : Repeat) (c : ex.Bound) (n : ℕ) (a : ex.Expr) (q p : Places) → o.from ≡ next q → 17 ≤ level a → Completes a → (fs : List Frame) (r : List Tok) → first_binds r < 16
+many_body : (o : Repeat) (c : ex.Bound) (n : ℕ) (a : ex.Expr) (q p : Places) → o.from ≡ next q → 17 ≤ level a → Completes a → (fs : List Frame) (r : List Tok)
+    → first_binds r < 16
     → let x = place a p in
-    run (seen (print a r) p) (frame.in_many o c n ∷ fs, frame.want) ≡ run (seen r x.1) (fs, frame.have (found (ex.Many o.bias c x.0 (between q x.1)) (1 + max n (depth a))))
+    run (seen (print a r) p) (frame.in_many o c n ∷ fs, frame.want)
+    ≡ run (seen r x.1) (fs, frame.have (found (ex.Many o.bias c x.0 (between q x.1)) (1 + max n (depth a))))
 many_body o c n a q p e la all fs r stop =
     let x = place a p in
     let ends = atom_limit a la in
     all (frame.in_many o c n ∷ fs) r p la (omega arith)
-    ∙ close_right (frame.in_many o c n) fs (found x.0 (depth a)) (found (ex.Many o.bias c x.0 (joined o.from (expr_span x.0))) (1 + max n (depth a))) r x.1 refl (omega arith) stop
+    ∙ close_right (frame.in_many o c n) fs (found x.0 (depth a)) (found (ex.Many o.bias c x.0 (joined o.from (expr_span x.0))) (1 + max n (depth a))) r x.1 refl
+    (omega arith) stop
     ∙ ap (λ s. run (seen r x.1) (fs, frame.have (found (ex.Many o.bias c x.0 (joined o.from s)) (1 + max n (depth a))))) (expr_span_placed a p)
     ∙ ap (λ s. run (seen r x.1) (fs, frame.have (found (ex.Many o.bias c x.0 (joined s (between p x.1))) (1 + max n (depth a))))) e
 
@@ -263,7 +315,8 @@ BoundCompletes (ex.Between c d s) = Completes c × Completes d
 
 -- the bound, before an atom
 reads_bound : (o : Repeat) (c : ex.Bound) → BoundCompletes c → (a : ex.Expr) → IsExpr a → 17 ≤ level a → (fs : List Frame) (r : List Tok) (p : Places)
-    → run (seen (print_bound c (print a r)) p) (frame.in_many o ex.Free 0 ∷ fs, frame.want) ≡ run (seen (print a r) (place_bound c p).1) (frame.in_many o (place_bound c p).0 (bound_depth c) ∷ fs, frame.want)
+    → run (seen (print_bound c (print a r)) p) (frame.in_many o ex.Free 0 ∷ fs, frame.want)
+    ≡ run (seen (print a r) (place_bound c p).1) (frame.in_many o (place_bound c p).0 (bound_depth c) ∷ fs, frame.want)
 reads_bound o ex.Free h a i l fs r p = refl
 reads_bound o (ex.Exactly c) h a i l fs r p =
     let x = place c p in
@@ -286,7 +339,8 @@ reads_bound o (ex.Between c d s) h a i l fs r p =
     let above_c = limit_above c in
     let some_d = level_some d in
     let above_d = limit_above d in
-    h.0 (frame.in_paren (next p) ∷ frame.in_many o ex.Free 0 ∷ fs) (k.Mark m.DotDot ∷ print d (k.Mark m.CloseParen ∷ print a r)) (after p) (omega arith) (omega arith)
+    h.0 (frame.in_paren (next p) ∷ frame.in_many o ex.Free 0 ∷ fs) (k.Mark m.DotDot ∷ print d (k.Mark m.CloseParen ∷ print a r)) (after p) (omega arith)
+    (omega arith)
     ∙ h.1 (frame.in_between o (next p) (found x.0 (depth c)) ∷ fs) (k.Mark m.CloseParen ∷ print a r) (after x.1) (omega arith) (omega arith)
 
 pub completes_many : (b : Bias) (c : ex.Bound) (a : ex.Expr) (s : Span) → IsExpr a → 17 ≤ level a → BoundCompletes c → Completes a → Completes (ex.Many b c a s)

@@ -18,14 +18,16 @@ use Rattle.ddl_tree.specs.Print.{print, print_typed}
 use Rattle.ddl_tree.specs.PrintModule.{print_param, print_params, print_part, print_more_parts, print_bits, print_con, print_cons, print_more_cons, print_decl}
 use Rattle.ddl_tree.specs.Grammar.{IsExpr}
 use Rattle.ddl_tree.specs.GrammarModule.{IsPart, AreParts, IsBits, AreCons, IsDecl}
-use Rattle.ddl_tree.specs.Depth.{depth, type_depth, typed_depth, class_depth, param_depth, params_depth, part_depth, parts_depth, bits_depth, cons_depth, decl_depth}
+use Rattle.ddl_tree.specs.Depth.{depth, type_depth, typed_depth, class_depth, param_depth, params_depth, part_depth, parts_depth, bits_depth, cons_depth}
+use Rattle.ddl_tree.specs.Depth.{decl_depth}
 use Rattle.ddl_tree.specs.Spans.{Places, next, after, between, place, place_name, place_type, place_typed, place_class}
 use Rattle.ddl_tree.specs.SpansModule.{place_param, place_params, place_part, place_more_parts, place_bits, place_con, place_cons, place_more_cons, place_decl}
 use Rattle.ddl_reader.specs.Frames.{Frame, State, Found, FoundType, FoundClass, Head, Sort, Layout, Parted, PartStart}
 use Rattle.ddl_reader.specs.Frames as frame
 use Rattle.ddl_reader.specs.StepType.{joined, found, found_type}
 use Rattle.ddl_reader.specs.StepClass.{found_class}
-use Rattle.ddl_reader.specs.StepDecl.{with_decl, declared, head_of, with_param, decl_of, close_body, close_class_body, bits_done, bit_pattern, parted, with_part, part_of}
+use Rattle.ddl_reader.specs.StepDecl.{with_decl, declared, head_of, with_param, decl_of, close_body, close_class_body, bits_done, bit_pattern, parted}
+use Rattle.ddl_reader.specs.StepDecl.{with_part, part_of}
 use Rattle.ddl_reader.specs.Step.{run}
 use Rattle.ddl_reader.proofs.Tokens.{seen, go}
 use Rattle.ddl_reader.proofs.Types.{reads_type, type_span_placed}
@@ -54,13 +56,15 @@ no_dots (k.Word w.Bitdata ∷ xs) h = tt
 no_dots _ h = absurd h
 
 -- what follows ends the body
-body_ends : (r : List Tok) → StartsDecl r → (p : Places) (h : Head) (t : Option ty.TypeExpr) (n : ℕ) (a : Found) (fs : List Frame) → run (seen r p) (frame.in_body h t n ∷ fs, frame.have a) ≡ run (seen r p) (close_body h t n a fs, frame.at_decl)
+body_ends : (r : List Tok) → StartsDecl r → (p : Places) (h : Head) (t : Option ty.TypeExpr) (n : ℕ) (a : Found) (fs : List Frame)
+    → run (seen r p) (frame.in_body h t n ∷ fs, frame.have a) ≡ run (seen r p) (close_body h t n a fs, frame.at_decl)
 body_ends [] i p h t n a fs = refl
 body_ends (k.Word w.Def ∷ xs) i p h t n a fs = refl
 body_ends (k.Word w.Bitdata ∷ xs) i p h t n a fs = refl
 body_ends _ i p h t n a fs = absurd i
 
-class_body_ends : (r : List Tok) → StartsDecl r → (p : Places) (s : Span) (x : Name) (c : FoundClass) (fs : List Frame) → run (seen r p) (frame.in_class_body s x ∷ fs, frame.have_class c) ≡ run (seen r p) (close_class_body s x c fs, frame.at_decl)
+class_body_ends : (r : List Tok) → StartsDecl r → (p : Places) (s : Span) (x : Name) (c : FoundClass) (fs : List Frame)
+    → run (seen r p) (frame.in_class_body s x ∷ fs, frame.have_class c) ≡ run (seen r p) (close_class_body s x c fs, frame.at_decl)
 class_body_ends [] i p s x c fs = refl
 class_body_ends (k.Word w.Def ∷ xs) i p s x c fs = refl
 class_body_ends (k.Word w.Bitdata ∷ xs) i p s x c fs = refl
@@ -71,40 +75,64 @@ class_body_ends _ i p s x c fs = absurd i
 abbrev with_params : Head → List mo.Param → ℕ → Head
 with_params h ps n = record { from = h.from; sort = h.sort; name = h.name; params = h.params ++ ps; deep = max h.deep n }
 
-reads_param : (a : mo.Param) (h : Head) (fs : List Frame) (r : List Tok) (p : Places) → run (seen (print_param a r) p) (fs, frame.want_param h) ≡ run (seen r (place_param a p).1) (fs, frame.want_param (with_param h (place_param a p).0 (param_depth a)))
+reads_param : (a : mo.Param) (h : Head) (fs : List Frame) (r : List Tok) (p : Places)
+    → run (seen (print_param a r) p) (fs, frame.want_param h)
+    ≡ run (seen r (place_param a p).1) (fs, frame.want_param (with_param h (place_param a p).0 (param_depth a)))
 reads_param (mo.Upper x) h fs r p = refl
 reads_param (mo.Lower x) h fs r p = refl
 reads_param (mo.Class x) h fs r p = refl
-reads_param (mo.TypedUpper x t s) h fs r p = reads_type t (frame.in_param h (next p) frame.of_grammar (place_name x (after p)) ∷ fs) (k.Mark m.CloseParen ∷ r) (after (after (after p)))
-reads_param (mo.TypedLower x t s) h fs r p = reads_type t (frame.in_param h (next p) frame.of_value (place_name x (after p)) ∷ fs) (k.Mark m.CloseParen ∷ r) (after (after (after p)))
+reads_param (mo.TypedUpper x t s) h fs r p = reads_type t (frame.in_param h (next p) frame.of_grammar (place_name x (after p)) ∷ fs) (k.Mark m.CloseParen ∷ r)
+    (after (after (after p)))
+reads_param (mo.TypedLower x t s) h fs r p = reads_type t (frame.in_param h (next p) frame.of_value (place_name x (after p)) ∷ fs) (k.Mark m.CloseParen ∷ r)
+    (after (after (after p)))
 
 pub append_none : {A : Type 0} (xs : List A) → xs ≡ xs ++ []
 append_none [] = refl
 append_none (x ∷ xs) = ap (λ ys. x ∷ ys) (append_none xs)
 
-reads_params : (ps : List mo.Param) (h : Head) (fs : List Frame) (r : List Tok) (p : Places) → run (seen (print_params ps r) p) (fs, frame.want_param h) ≡ run (seen r (place_params ps p).1) (fs, frame.want_param (with_params h (place_params ps p).0 (params_depth ps)))
+reads_params : (ps : List mo.Param) (h : Head) (fs : List Frame) (r : List Tok) (p : Places)
+    → run (seen (print_params ps r) p) (fs, frame.want_param h)
+    ≡ run (seen r (place_params ps p).1) (fs, frame.want_param (with_params h (place_params ps p).0 (params_depth ps)))
 reads_params [] h fs r p =
     ap (λ ps. run (seen r p) (fs, frame.want_param (record { from = h.from; sort = h.sort; name = h.name; params = ps; deep = h.deep }))) (append_none h.params)
-    ∙ ap (λ n. run (seen r p) (fs, frame.want_param (record { from = h.from; sort = h.sort; name = h.name; params = h.params ++ []; deep = n }))) (max_none h.deep)
+    ∙ ap (λ n. run (seen r p) (fs, frame.want_param (record { from = h.from; sort = h.sort; name = h.name; params = h.params ++ []; deep = n })))
+    (max_none h.deep)
 reads_params (a ∷ ps) h fs r p =
     let x = place_param a p in
     let y = place_params ps x.1 in
     reads_param a h fs (print_params ps r) p
     ∙ reads_params ps (with_param h x.0 (param_depth a)) fs r x.1
-    ∙ ap (λ ps'. run (seen r y.1) (fs, frame.want_param (record { from = h.from; sort = h.sort; name = h.name; params = ps'; deep = max (max h.deep (param_depth a)) (params_depth ps) }))) (append_assoc h.params (x.0 ∷ []) y.0)
-    ∙ ap (λ n. run (seen r y.1) (fs, frame.want_param (record { from = h.from; sort = h.sort; name = h.name; params = h.params ++ x.0 ∷ y.0; deep = n }))) (max_more h.deep (param_depth a) (params_depth ps))
+    ∙ ap (λ ps'. run (seen r y.1) (
+      fs,
+      frame.want_param (record {
+        from = h.from;
+        sort = h.sort;
+        name = h.name;
+        params = ps';
+        deep =
+            max (max h.deep (param_depth a)) (params_depth ps);
+      }),
+    )) (append_assoc h.params (x.0 ∷ []) y.0)
+    ∙ ap (λ n. run (seen r y.1) (fs, frame.want_param (record { from = h.from; sort = h.sort; name = h.name; params = h.params ++ x.0 ∷ y.0; deep = n })))
+    (max_more h.deep (param_depth a) (params_depth ps))
 
 -- the result's type, where it is written
 reads_typed : (t : Option ty.TypeExpr) (h : Head) (fs : List Frame) (r : List Tok) (p : Places)
-    → run (seen (print_typed t (k.Mark m.Equals ∷ r)) p) (fs, frame.want_param h) ≡ run (seen r (after (place_typed t p).1)) (frame.in_body h (place_typed t p).0 (typed_depth t) ∷ fs, frame.want)
+    → run (seen (print_typed t (k.Mark m.Equals ∷ r)) p) (fs, frame.want_param h)
+    ≡ run (seen r (after (place_typed t p).1)) (frame.in_body h (place_typed t p).0 (typed_depth t) ∷ fs, frame.want)
 reads_typed None h fs r p = refl
 reads_typed (Some t) h fs r p = reads_type t (frame.in_result h ∷ fs) (k.Mark m.Equals ∷ r) (after p)
 
 -- parameters, type and body, after the name
-reads_def : (o : Sort) (x : Name) (f : Span) (ps : List mo.Param) (t : Option ty.TypeExpr) (e : ex.Expr) → IsExpr e → (fs : List Frame) (r : List Tok) (p : Places) → StartsDecl r
+reads_def : (o : Sort) (x : Name) (f : Span) (ps : List mo.Param) (t : Option ty.TypeExpr) (e : ex.Expr) → IsExpr e
+    → (fs : List Frame) (r : List Tok) (p : Places) → StartsDecl r
     → let y = place_params ps p in let z = place_typed t y.1 in let b = place e (after z.1) in
     run (seen (print_params ps (print_typed t (k.Mark m.Equals ∷ print e r))) p) (fs, frame.want_param (head_of f o x))
-    ≡ run (seen r b.1) (with_decl (decl_of o x y.0 z.0 (found b.0 (depth e)) (joined f (expr_span b.0))) (max (params_depth ps) (max (typed_depth t) (depth e))) fs, frame.at_decl)
+    ≡ run (seen r b.1) (
+      with_decl (decl_of o x y.0 z.0 (found b.0 (depth e)) (joined f (expr_span b.0))) (max (params_depth ps) (max (typed_depth t) (depth e)))
+          fs,
+      frame.at_decl,
+    )
 reads_def o x f ps t e i fs r p starts =
     let y = place_params ps p in
     let z = place_typed t y.1 in
@@ -117,7 +145,8 @@ reads_def o x f ps t e i fs r p starts =
     ∙ reads_typed t h fs (print e r) y.1
     ∙ completes e i (frame.in_body h z.0 (typed_depth t) ∷ fs) r (after z.1) (omega arith) (omega arith)
     ∙ body_ends r starts b.1 h z.0 (typed_depth t) (found b.0 (depth e)) fs
-    ∙ ap (λ n. run (seen r b.1) (with_decl (decl_of o x y.0 z.0 (found b.0 (depth e)) (joined f (expr_span b.0))) n fs, frame.at_decl)) (zero_max (params_depth ps) (max (typed_depth t) (depth e)))
+    ∙ ap (λ n. run (seen r b.1) (with_decl (decl_of o x y.0 z.0 (found b.0 (depth e)) (joined f (expr_span b.0))) n fs, frame.at_decl))
+    (zero_max (params_depth ps) (max (typed_depth t) (depth e)))
 
 -- ---- layouts
 
@@ -127,12 +156,19 @@ bit_fits Hexadecimal z h = refl
 bit_fits Binary z h = refl
 
 -- what follows a type ends a part
-part_ends : (r : List Tok) (p : Places) (d : Parted) (o : PartStart) (t : FoundType) (fs : List Frame) → run (seen r p) (frame.in_part d o ∷ fs, frame.have_type t) ≡ run (seen r p) (fs, frame.after_part (with_part d (part_of o t.type) t.deep))
+part_ends : (r : List Tok) (p : Places) (d : Parted) (o : PartStart) (t : FoundType) (fs : List Frame)
+    → run (seen r p) (frame.in_part d o ∷ fs, frame.have_type t) ≡ run (seen r p) (fs, frame.after_part (with_part d (part_of o t.type) t.deep))
 part_ends [] p d o t fs = refl
 part_ends (x ∷ xs) p d o t fs = refl
 
-reads_part : (a : mo.Part) → IsPart a → (d : Parted) (fs : List Frame) (r : List Tok) (p : Places) → run (seen (print_part a r) p) (fs, frame.want_part d) ≡ run (seen r (place_part a p).1) (fs, frame.after_part (with_part d (place_part a p).0 (part_depth a)))
-reads_part (mo.Fixed n) i d fs r p = go (k.Number n.value n.base n.digits) r p (fs, frame.want_part d) (fs, frame.after_part (with_part d (place_part (mo.Fixed n) p).0 0)) (bit_fits n.base (Some (fs, frame.after_part (with_part d (place_part (mo.Fixed n) p).0 0))) i)
+reads_part : (a : mo.Part) → IsPart a → (d : Parted) (fs : List Frame) (r : List Tok) (p : Places)
+    → run (seen (print_part a r) p) (fs, frame.want_part d)
+    ≡ run (seen r (place_part a p).1) (fs, frame.after_part (with_part d (place_part a p).0 (part_depth a)))
+reads_part (mo.Fixed n) i d fs r p = go (k.Number n.value n.base n.digits) r p (fs, frame.want_part d) (
+  fs,
+  frame.after_part (with_part d (place_part (mo.Fixed n) p).0 0),
+)
+    (bit_fits n.base (Some (fs, frame.after_part (with_part d (place_part (mo.Fixed n) p).0 0))) i)
 reads_part (mo.Named x t s) i d fs r p =
     let q = after (after p) in
     let y = place_type t q in
@@ -148,7 +184,8 @@ reads_part (mo.Unnamed t s) i d fs r p =
 
 rest_of_parts : (ps : List mo.Part) → AreParts ps → (d : Parted) (fs : List Frame) (r : List Tok) (p : Places)
     → let y = place_more_parts ps p in
-    run (seen (print_more_parts ps (k.Mark m.CloseBrace ∷ r)) p) (fs, frame.after_part d) ≡ run (seen r (after y.1)) (bits_done d.layout (mo.Parts (d.parts ++ y.0) (joined d.from (next y.1))) (max d.deep (parts_depth ps)) fs)
+    run (seen (print_more_parts ps (k.Mark m.CloseBrace ∷ r)) p) (fs, frame.after_part d)
+    ≡ run (seen r (after y.1)) (bits_done d.layout (mo.Parts (d.parts ++ y.0) (joined d.from (next y.1))) (max d.deep (parts_depth ps)) fs)
 rest_of_parts [] i d fs r p =
     ap (λ ps. run (seen r (after p)) (bits_done d.layout (mo.Parts ps (joined d.from (next p))) d.deep fs)) (append_none d.parts)
     ∙ ap (λ n. run (seen r (after p)) (bits_done d.layout (mo.Parts (d.parts ++ []) (joined d.from (next p))) n fs)) (max_none d.deep)
@@ -157,11 +194,15 @@ rest_of_parts (a ∷ ps) i d fs r p =
     let y = place_more_parts ps x.1 in
     reads_part a i.0 d fs (print_more_parts ps (k.Mark m.CloseBrace ∷ r)) (after p)
     ∙ rest_of_parts ps i.1 (with_part d x.0 (part_depth a)) fs r x.1
-    ∙ ap (λ ps'. run (seen r (after y.1)) (bits_done d.layout (mo.Parts ps' (joined d.from (next y.1))) (max (max d.deep (part_depth a)) (parts_depth ps)) fs)) (append_assoc d.parts (x.0 ∷ []) y.0)
-    ∙ ap (λ n. run (seen r (after y.1)) (bits_done d.layout (mo.Parts (d.parts ++ x.0 ∷ y.0) (joined d.from (next y.1))) n fs)) (max_more d.deep (part_depth a) (parts_depth ps))
+    ∙ ap (λ ps'. run (seen r (after y.1)) (bits_done d.layout (mo.Parts ps' (joined d.from (next y.1))) (max (max d.deep (part_depth a)) (parts_depth ps)) fs))
+    (append_assoc d.parts (x.0 ∷ []) y.0)
+    ∙ ap (λ n. run (seen r (after y.1)) (bits_done d.layout (mo.Parts (d.parts ++ x.0 ∷ y.0) (joined d.from (next y.1))) n fs))
+    (max_more d.deep (part_depth a) (parts_depth ps))
 
-reads_bits : (b : mo.Bits) → IsBits b → (l : Layout) (fs : List Frame) (r : List Tok) (p : Places) → run (seen (print_bits b r) p) (fs, frame.want_bits l) ≡ run (seen r (place_bits b p).1) (bits_done l (place_bits b p).0 (bits_depth b) fs)
-reads_bits (mo.Exactly n) i l fs r p = go (k.Number n.value n.base n.digits) r p (fs, frame.want_bits l) (bits_done l (place_bits (mo.Exactly n) p).0 0 fs) (bit_fits n.base (Some (bits_done l (place_bits (mo.Exactly n) p).0 0 fs)) i)
+reads_bits : (b : mo.Bits) → IsBits b → (l : Layout) (fs : List Frame) (r : List Tok) (p : Places)
+    → run (seen (print_bits b r) p) (fs, frame.want_bits l) ≡ run (seen r (place_bits b p).1) (bits_done l (place_bits b p).0 (bits_depth b) fs)
+reads_bits (mo.Exactly n) i l fs r p = go (k.Number n.value n.base n.digits) r p (fs, frame.want_bits l) (bits_done l (place_bits (mo.Exactly n) p).0 0 fs)
+    (bit_fits n.base (Some (bits_done l (place_bits (mo.Exactly n) p).0 0 fs)) i)
 reads_bits (mo.Parts [] s) i l fs r p = absurd (i.0 refl)
 reads_bits (mo.Parts (a ∷ ps) s) i l fs r p =
     let x = place_part a (after p) in
@@ -180,16 +221,19 @@ abbrev con_at : Name → mo.Bits → Span → mo.Con
 con_at x b s = record { name = x; bits = b; span = s }
 
 reads_con : (c : mo.Con) → IsBits c.bits → (f : Span) (x : Name) (cs : List mo.Con) (n : ℕ) (fs : List Frame) (r : List Tok) (p : Places)
-    → run (seen (print_con c r) p) (fs, frame.want_con f x cs n) ≡ run (seen r (place_con c p).1) (fs, frame.after_con f x (cs ++ (place_con c p).0 ∷ []) (max n (bits_depth c.bits)))
+    → run (seen (print_con c r) p) (fs, frame.want_con f x cs n)
+    ≡ run (seen r (place_con c p).1) (fs, frame.after_con f x (cs ++ (place_con c p).0 ∷ []) (max n (bits_depth c.bits)))
 reads_con c i f x cs n fs r p =
     let y = place_name c.name p in
     let b = place_bits c.bits (after (after p)) in
     reads_bits c.bits i (frame.of_con f x cs y n) fs r (after (after p))
-    ∙ ap (λ s. run (seen r b.1) (fs, frame.after_con f x (cs ++ con_at y b.0 (joined (next p) s) ∷ []) (max n (bits_depth c.bits)))) (bits_span_placed c.bits (after (after p)))
+    ∙ ap (λ s. run (seen r b.1) (fs, frame.after_con f x (cs ++ con_at y b.0 (joined (next p) s) ∷ []) (max n (bits_depth c.bits))))
+    (bits_span_placed c.bits (after (after p)))
 
 rest_of_cons : (ds : List mo.Con) → AreCons ds → (f : Span) (x : Name) (cs : List mo.Con) (n : ℕ) (fs : List Frame) (r : List Tok) (p : Places)
     → let y = place_more_cons ds p in
-    run (seen (print_more_cons ds (k.Mark m.CloseBrace ∷ r)) p) (fs, frame.after_con f x cs n) ≡ run (seen r (after y.1)) (declared (mo.BitsUnion x (cs ++ y.0) (joined f (next y.1))) (max n (cons_depth ds)) fs)
+    run (seen (print_more_cons ds (k.Mark m.CloseBrace ∷ r)) p) (fs, frame.after_con f x cs n)
+    ≡ run (seen r (after y.1)) (declared (mo.BitsUnion x (cs ++ y.0) (joined f (next y.1))) (max n (cons_depth ds)) fs)
 rest_of_cons [] i f x cs n fs r p =
     ap (λ ds. run (seen r (after p)) (declared (mo.BitsUnion x ds (joined f (next p))) n fs)) (append_none cs)
     ∙ ap (λ d. run (seen r (after p)) (declared (mo.BitsUnion x (cs ++ []) (joined f (next p))) d fs)) (max_none n)
@@ -198,12 +242,15 @@ rest_of_cons (c ∷ ds) i f x cs n fs r p =
     let y = place_more_cons ds z.1 in
     reads_con c i.0 f x cs n fs (print_more_cons ds (k.Mark m.CloseBrace ∷ r)) (after p)
     ∙ rest_of_cons ds i.1 f x (cs ++ z.0 ∷ []) (max n (bits_depth c.bits)) fs r z.1
-    ∙ ap (λ ds'. run (seen r (after y.1)) (declared (mo.BitsUnion x ds' (joined f (next y.1))) (max (max n (bits_depth c.bits)) (cons_depth ds)) fs)) (append_assoc cs (z.0 ∷ []) y.0)
-    ∙ ap (λ d. run (seen r (after y.1)) (declared (mo.BitsUnion x (cs ++ z.0 ∷ y.0) (joined f (next y.1))) d fs)) (max_more n (bits_depth c.bits) (cons_depth ds))
+    ∙ ap (λ ds'. run (seen r (after y.1)) (declared (mo.BitsUnion x ds' (joined f (next y.1))) (max (max n (bits_depth c.bits)) (cons_depth ds)) fs))
+    (append_assoc cs (z.0 ∷ []) y.0)
+    ∙ ap (λ d. run (seen r (after y.1)) (declared (mo.BitsUnion x (cs ++ z.0 ∷ y.0) (joined f (next y.1))) d fs))
+    (max_more n (bits_depth c.bits) (cons_depth ds))
 
 reads_cons : (ds : List mo.Con) → ds ≢ [] → AreCons ds → (f : Span) (x : Name) (fs : List Frame) (r : List Tok) (p : Places)
     → let y = place_cons ds p in
-    run (seen (print_cons ds (k.Mark m.CloseBrace ∷ r)) p) (fs, frame.want_con f x [] 0) ≡ run (seen r (after y.1)) (declared (mo.BitsUnion x y.0 (joined f (next y.1))) (cons_depth ds) fs)
+    run (seen (print_cons ds (k.Mark m.CloseBrace ∷ r)) p) (fs, frame.want_con f x [] 0)
+    ≡ run (seen r (after y.1)) (declared (mo.BitsUnion x y.0 (joined f (next y.1))) (cons_depth ds) fs)
 reads_cons [] some i f x fs r p = absurd (some refl)
 reads_cons (c ∷ ds) some i f x fs r p =
     let z = place_con c p in
@@ -214,21 +261,24 @@ reads_cons (c ∷ ds) some i f x fs r p =
 
 -- ---- declarations
 
-pub reads_decl : (d : mo.Decl) → IsDecl d → (fs : List Frame) (r : List Tok) (p : Places) → StartsDecl r → run (seen (print_decl d r) p) (fs, frame.at_decl) ≡ run (seen r (place_decl d p).1) (declared (place_decl d p).0 (decl_depth d) fs)
+pub reads_decl : (d : mo.Decl) → IsDecl d → (fs : List Frame) (r : List Tok) (p : Places) → StartsDecl r
+    → run (seen (print_decl d r) p) (fs, frame.at_decl) ≡ run (seen r (place_decl d p).1) (declared (place_decl d p).0 (decl_depth d) fs)
 reads_decl (mo.Grammar x ps t e s) i fs r p starts =
     let q = after (after p) in
     let y = place_params ps q in
     let z = place_typed t y.1 in
     let b = place e (after z.1) in
     reads_def frame.of_grammar (place_name x (after p)) (next p) ps t e i fs r q starts
-    ∙ ap (λ s. run (seen r b.1) (declared (mo.Grammar (place_name x (after p)) y.0 z.0 b.0 (joined (next p) s)) (max (params_depth ps) (max (typed_depth t) (depth e))) fs)) (expr_span_placed e (after z.1))
+    ∙ ap (λ s. run (seen r b.1) (declared (mo.Grammar (place_name x (after p)) y.0 z.0 b.0 (joined (next p) s))
+    (max (params_depth ps) (max (typed_depth t) (depth e))) fs)) (expr_span_placed e (after z.1))
 reads_decl (mo.Value x ps t e s) i fs r p starts =
     let q = after (after p) in
     let y = place_params ps q in
     let z = place_typed t y.1 in
     let b = place e (after z.1) in
     reads_def frame.of_value (place_name x (after p)) (next p) ps t e i fs r q starts
-    ∙ ap (λ s. run (seen r b.1) (declared (mo.Value (place_name x (after p)) y.0 z.0 b.0 (joined (next p) s)) (max (params_depth ps) (max (typed_depth t) (depth e))) fs)) (expr_span_placed e (after z.1))
+    ∙ ap (λ s. run (seen r b.1) (declared (mo.Value (place_name x (after p)) y.0 z.0 b.0 (joined (next p) s))
+    (max (params_depth ps) (max (typed_depth t) (depth e))) fs)) (expr_span_placed e (after z.1))
 reads_decl (mo.ClassDef x c s) i fs r p starts =
     let q = after (after (after p)) in
     let y = place_class c q in

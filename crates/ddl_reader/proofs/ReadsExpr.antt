@@ -3,7 +3,8 @@ use Rattle.std.proofs.Common.{refl}
 use Rattle.ddl_tree.specs.ExprTree as ex
 use Rattle.ddl_tree.specs.Grammar.{IsExpr, IsBound, IsItem, AreAtoms, AreExprs, AreBindings, AreItems, AreAlts}
 use Rattle.ddl_reader.proofs.Levels.{Completes}
-use Rattle.ddl_reader.proofs.ReadsForms.{completes_infix, completes_pure, completes_prefix, completes_cast, completes_is, completes_select, completes_if, completes_for, completes_map, completes_paren, completes_set, completes_tagged}
+use Rattle.ddl_reader.proofs.ReadsForms.{completes_infix, completes_pure, completes_prefix, completes_cast, completes_is, completes_select, completes_if}
+use Rattle.ddl_reader.proofs.ReadsForms.{completes_for, completes_map, completes_paren, completes_set, completes_tagged}
 use Rattle.ddl_reader.proofs.ReadsLists.{AllComplete, completes_array, completes_untagged}
 use Rattle.ddl_reader.proofs.ReadsCalls.{BoundCompletes, completes_call_grammar, completes_call_value, completes_just, completes_optional, completes_many}
 use Rattle.ddl_reader.proofs.ReadsBindings.{AllBound, completes_record, completes_tags}

@@ -70,12 +70,14 @@ value_deep (ex.Plain a) p = refl
 
 item_started : (i : ex.Item) (p : Places) → started (start_of i p) (value_of i p) ≡ (place_item i p).0
 item_started (ex.Result a s) p = ap (λ s. ex.Result (place a (after (after p))).0 (joined (next p) s)) (expr_span_placed a (after (after p)))
-item_started (ex.Let x a s) p = ap (λ s. ex.Let (place_name x (after p)) (place a (after (after (after p)))).0 (joined (next p) s)) (expr_span_placed a (after (after (after p))))
+item_started (ex.Let x a s) p = ap (λ s. ex.Let (place_name x (after p)) (place a (after (after (after p)))).0 (joined (next p) s))
+    (expr_span_placed a (after (after (after p))))
 item_started (ex.Field x a s) p = ap (λ s. ex.Field (place_name x p) (place a (after (after p))).0 (joined (next p) s)) (expr_span_placed a (after (after p)))
 item_started (ex.Plain a) p = refl
 
 reads_item : (i : ex.Item) → ItemCompletes i → (s : Span) (pre : List ex.Item) (n : ℕ) (fs : List Frame) (r : List Tok) (p : Places) → first_binds r ≡ 0
-    → run (seen (print_item i r) p) (frame.in_block s pre n frame.plainly ∷ fs, frame.want) ≡ run (seen r (place_item i p).1) (frame.in_block s pre n (start_of i p) ∷ fs, frame.have (value_of i p))
+    → run (seen (print_item i r) p) (frame.in_block s pre n frame.plainly ∷ fs, frame.want)
+    ≡ run (seen r (place_item i p).1) (frame.in_block s pre n (start_of i p) ∷ fs, frame.have (value_of i p))
 reads_item (ex.Result a t) all s pre n fs r p h =
     let some = level_some a in
     let above = limit_above a in
@@ -100,7 +102,8 @@ rest_of_block : (is : ex.Items) → AllItems is → (s : Span) (pre : List ex.It
     → let y = place_more_items is p in
     run (seen (print_more_items is (k.Mark m.CloseBrace ∷ r)) p) (frame.in_block s pre n b ∷ fs, frame.have a)
     ≡ run (seen r (after y.1)) (fs, frame.have (block_of s (next y.1) (pre ++ started b a ∷ items_listed y.0) (max (max n a.deep) (items_depth is))))
-rest_of_block ex.no_items all s pre n b a fs r p = ap (λ d. run (seen r (after p)) (fs, frame.have (block_of s (next p) (pre ++ started b a ∷ []) d))) (max_none (max n a.deep))
+rest_of_block ex.no_items all s pre n b a fs r p = ap (λ d. run (seen r (after p)) (fs, frame.have (block_of s (next p) (pre ++ started b a ∷ []) d)))
+    (max_none (max n a.deep))
 rest_of_block (ex.an_item i is) all s pre n b a fs r p =
     let q = after p in
     let x = place_item i q in
@@ -109,10 +112,20 @@ rest_of_block (ex.an_item i is) all s pre n b a fs r p =
     let o = start_of i q in
     reads_item i all.0 s (pre ++ started b a ∷ []) (max n a.deep) fs (print_more_items is (k.Mark m.CloseBrace ∷ r)) q (items_small is r)
     ∙ rest_of_block is all.1 s (pre ++ started b a ∷ []) (max n a.deep) o v fs r x.1
-    ∙ ap (λ ys. run (seen r (after y.1)) (fs, frame.have (block_of s (next y.1) ys (max (max (max n a.deep) v.deep) (items_depth is))))) (append_assoc pre (started b a ∷ []) (started o v ∷ items_listed y.0))
-    ∙ ap (λ z. run (seen r (after y.1)) (fs, frame.have (block_of s (next y.1) (pre ++ started b a ∷ z ∷ items_listed y.0) (max (max (max n a.deep) v.deep) (items_depth is))))) (item_started i q)
-    ∙ ap (λ d. run (seen r (after y.1)) (fs, frame.have (block_of s (next y.1) (pre ++ started b a ∷ x.0 ∷ items_listed y.0) (max (max (max n a.deep) d) (items_depth is))))) (value_deep i q)
-    ∙ ap (λ d. run (seen r (after y.1)) (fs, frame.have (block_of s (next y.1) (pre ++ started b a ∷ x.0 ∷ items_listed y.0) d))) (max_more (max n a.deep) (item_depth i) (items_depth is))
+    ∙ ap (λ ys. run (seen r (after y.1)) (fs, frame.have (block_of s (next y.1) ys (max (max (max n a.deep) v.deep) (items_depth is)))))
+    (append_assoc pre (started b a ∷ []) (started o v ∷ items_listed y.0))
+    ∙ ap (λ z. run (seen r (after y.1)) (
+      fs,
+      frame.have (block_of s (next y.1) (pre ++ started b a ∷ z ∷ items_listed y.0)
+          (max (max (max n a.deep) v.deep) (items_depth is))),
+    )) (item_started i q)
+    ∙ ap (λ d. run (seen r (after y.1)) (
+      fs,
+      frame.have (block_of s (next y.1) (pre ++ started b a ∷ x.0 ∷ items_listed y.0)
+          (max (max (max n a.deep) d) (items_depth is))),
+    )) (value_deep i q)
+    ∙ ap (λ d. run (seen r (after y.1)) (fs, frame.have (block_of s (next y.1) (pre ++ started b a ∷ x.0 ∷ items_listed y.0) d)))
+    (max_more (max n a.deep) (item_depth i) (items_depth is))
 
 pub completes_block : (is : ex.Items) (s : Span) → SomeItems is → AllItems is → Completes (ex.Block is s)
 completes_block ex.no_items s some all fs r p lev lim = absurd some
@@ -124,10 +137,17 @@ completes_block (ex.an_item i is) s some all fs r p lev lim =
     let o = start_of i q in
     reads_item i all.0 (next p) [] 0 fs (print_more_items is (k.Mark m.CloseBrace ∷ r)) q (items_small is r)
     ∙ rest_of_block is all.1 (next p) [] 0 o v fs r x.1
-    ∙ ap (λ z. run (seen r (after y.1)) (fs, frame.have (block_of (next p) (next y.1) (z ∷ items_listed y.0) (max (max 0 v.deep) (items_depth is))))) (item_started i q)
-    ∙ ap (λ d. run (seen r (after y.1)) (fs, frame.have (block_of (next p) (next y.1) (x.0 ∷ items_listed y.0) (max (max 0 d) (items_depth is))))) (value_deep i q)
-    ∙ ap (λ ys. run (seen r (after y.1)) (fs, frame.have (found (ex.Block (ex.an_item x.0 ys) (joined (next p) (next y.1))) (1 + max (max 0 (item_depth i)) (items_depth is))))) (items_back y.0)
-    ∙ ap (λ d. run (seen r (after y.1)) (fs, frame.have (found (ex.Block (ex.an_item x.0 y.0) (joined (next p) (next y.1))) (1 + d)))) (zero_max (item_depth i) (items_depth is))
+    ∙ ap (λ z. run (seen r (after y.1)) (fs, frame.have (block_of (next p) (next y.1) (z ∷ items_listed y.0) (max (max 0 v.deep) (items_depth is)))))
+    (item_started i q)
+    ∙ ap (λ d. run (seen r (after y.1)) (fs, frame.have (block_of (next p) (next y.1) (x.0 ∷ items_listed y.0) (max (max 0 d) (items_depth is)))))
+    (value_deep i q)
+    ∙ ap (λ ys. run (seen r (after y.1)) (
+      fs,
+      frame.have (found (ex.Block (ex.an_item x.0 ys) (joined (next p) (next y.1)))
+          (1 + max (max 0 (item_depth i)) (items_depth is))),
+    )) (items_back y.0)
+    ∙ ap (λ d. run (seen r (after y.1)) (fs, frame.have (found (ex.Block (ex.an_item x.0 y.0) (joined (next p) (next y.1))) (1 + d))))
+    (zero_max (item_depth i) (items_depth is))
 
 -- ---- case
 
@@ -160,7 +180,9 @@ pattern_span_placed (pat.Nothing s) p = refl
 pattern_span_placed (pat.Just b s) p = refl
 pattern_span_placed (pat.Tag x b s) p = refl
 
-reads_pattern : (f : Pat) (c : Cases) (fs : List Frame) (r : List Tok) (p : Places) → run (seen (print_pattern f (k.Mark m.Arrow ∷ r)) p) (fs, frame.want_pattern c) ≡ run (seen r (after (place_pattern f p).1)) (in_alt_of c (place_pattern f p).0 fs)
+reads_pattern : (f : Pat) (c : Cases) (fs : List Frame) (r : List Tok) (p : Places)
+    → run (seen (print_pattern f (k.Mark m.Arrow ∷ r)) p) (fs, frame.want_pattern c)
+    ≡ run (seen r (after (place_pattern f p).1)) (in_alt_of c (place_pattern f p).0 fs)
 reads_pattern (pat.Any s) c fs r p = refl
 reads_pattern (pat.Num n) c fs r p = refl
 reads_pattern (pat.Char b s) c fs r p = refl
@@ -185,11 +207,13 @@ placed_alt f a n p =
 abbrev case_of : Span → Span → Found → List ex.Alt → ℕ → Found
 case_of s t e xs n = found (ex.Case e.expr (alts_of xs) (joined s t)) (1 + max e.deep n)
 
-rest_of_case : (xs : ex.Alts) → AllAlts xs → (s : Span) (e : Found) (pre : List ex.Alt) (n : ℕ) (f : Pat) (a : Found) (fs : List Frame) (r : List Tok) (p : Places)
+rest_of_case : (xs : ex.Alts) → AllAlts xs → (s : Span) (e : Found) (pre : List ex.Alt) (n : ℕ) (f : Pat) (a : Found) (fs : List Frame) (r : List Tok)
+    (p : Places)
     → let y = place_more_alts xs p in
     run (seen (print_more_alts xs (k.Mark m.CloseBrace ∷ r)) p) (frame.in_alt s e pre n f ∷ fs, frame.have a)
     ≡ run (seen r (after y.1)) (fs, frame.have (case_of s (next y.1) e (pre ++ alt_of f a ∷ alts_listed y.0) (max (max n a.deep) (alts_depth xs))))
-rest_of_case ex.no_alts all s e pre n f a fs r p = ap (λ d. run (seen r (after p)) (fs, frame.have (case_of s (next p) e (pre ++ alt_of f a ∷ []) d))) (max_none (max n a.deep))
+rest_of_case ex.no_alts all s e pre n f a fs r p = ap (λ d. run (seen r (after p)) (fs, frame.have (case_of s (next p) e (pre ++ alt_of f a ∷ []) d)))
+    (max_none (max n a.deep))
 rest_of_case (ex.an_alt g b t xs) all s e pre n f a fs r p =
     let q = after p in
     let h = place_pattern g q in
@@ -200,11 +224,18 @@ rest_of_case (ex.an_alt g b t xs) all s e pre n f a fs r p =
     let small = alts_small xs r in
     let c : Cases = record { from = s; subject = e; alts = pre ++ alt_of f a ∷ []; deep = max n a.deep } in
     reads_pattern g c fs (print b (print_more_alts xs (k.Mark m.CloseBrace ∷ r))) q
-    ∙ all.0 (frame.in_alt s e (pre ++ alt_of f a ∷ []) (max n a.deep) h.0 ∷ fs) (print_more_alts xs (k.Mark m.CloseBrace ∷ r)) (after h.1) (omega arith) (omega arith)
+    ∙ all.0 (frame.in_alt s e (pre ++ alt_of f a ∷ []) (max n a.deep) h.0 ∷ fs) (print_more_alts xs (k.Mark m.CloseBrace ∷ r)) (after h.1) (omega arith)
+    (omega arith)
     ∙ rest_of_case xs all.1 s e (pre ++ alt_of f a ∷ []) (max n a.deep) h.0 (found x.0 (depth b)) fs r x.1
-    ∙ ap (λ ys. run (seen r (after y.1)) (fs, frame.have (case_of s (next y.1) e ys (max (max (max n a.deep) (depth b)) (alts_depth xs))))) (append_assoc pre (alt_of f a ∷ []) (alt_of h.0 (found x.0 (depth b)) ∷ alts_listed y.0))
-    ∙ ap (λ z. run (seen r (after y.1)) (fs, frame.have (case_of s (next y.1) e (pre ++ alt_of f a ∷ z ∷ alts_listed y.0) (max (max (max n a.deep) (depth b)) (alts_depth xs))))) (placed_alt g b (depth b) q)
-    ∙ ap (λ d. run (seen r (after y.1)) (fs, frame.have (case_of s (next y.1) e (pre ++ alt_of f a ∷ alternative h.0 x.0 (between q x.1) ∷ alts_listed y.0) d))) (max_more (max n a.deep) (depth b) (alts_depth xs))
+    ∙ ap (λ ys. run (seen r (after y.1)) (fs, frame.have (case_of s (next y.1) e ys (max (max (max n a.deep) (depth b)) (alts_depth xs)))))
+    (append_assoc pre (alt_of f a ∷ []) (alt_of h.0 (found x.0 (depth b)) ∷ alts_listed y.0))
+    ∙ ap (λ z. run (seen r (after y.1)) (
+      fs,
+      frame.have (case_of s (next y.1) e (pre ++ alt_of f a ∷ z ∷ alts_listed y.0)
+          (max (max (max n a.deep) (depth b)) (alts_depth xs))),
+    )) (placed_alt g b (depth b) q)
+    ∙ ap (λ d. run (seen r (after y.1)) (fs, frame.have (case_of s (next y.1) e (pre ++ alt_of f a ∷ alternative h.0 x.0 (between q x.1) ∷ alts_listed y.0) d)))
+    (max_more (max n a.deep) (depth b) (alts_depth xs))
 
 pub completes_case : (a : ex.Expr) (xs : ex.Alts) (s : Span) → SomeAlts xs → Completes a → AllAlts xs → Completes (ex.Case a xs s)
 completes_case a ex.no_alts s some one all fs r p lev lim = absurd some
@@ -225,6 +256,15 @@ completes_case a (ex.an_alt g b t xs) s _ one all fs r p lev lim =
     ∙ reads_pattern g (no_cases (next p) e) fs (print b (print_more_alts xs (k.Mark m.CloseBrace ∷ r))) q
     ∙ all.0 (frame.in_alt (next p) e [] 0 h.0 ∷ fs) (print_more_alts xs (k.Mark m.CloseBrace ∷ r)) (after h.1) (omega arith) (omega arith)
     ∙ rest_of_case xs all.1 (next p) e [] 0 h.0 (found x.0 (depth b)) fs r x.1
-    ∙ ap (λ v. run (seen r (after y.1)) (fs, frame.have (case_of (next p) (next y.1) e (v ∷ alts_listed y.0) (max (max 0 (depth b)) (alts_depth xs))))) (placed_alt g b (depth b) q)
-    ∙ ap (λ ys. run (seen r (after y.1)) (fs, frame.have (found (ex.Case z.0 (ex.an_alt h.0 x.0 (between q x.1) ys) (joined (next p) (next y.1))) (1 + max (depth a) (max (max 0 (depth b)) (alts_depth xs)))))) (alts_back y.0)
-    ∙ ap (λ d. run (seen r (after y.1)) (fs, frame.have (found (ex.Case z.0 (ex.an_alt h.0 x.0 (between q x.1) y.0) (joined (next p) (next y.1))) (1 + max (depth a) d)))) (zero_max (depth b) (alts_depth xs))
+    ∙ ap (λ v. run (seen r (after y.1)) (fs, frame.have (case_of (next p) (next y.1) e (v ∷ alts_listed y.0) (max (max 0 (depth b)) (alts_depth xs)))))
+    (placed_alt g b (depth b) q)
+    ∙ ap (λ ys. run (seen r (after y.1)) (
+      fs,
+      frame.have (found (ex.Case z.0 (ex.an_alt h.0 x.0 (between q x.1) ys) (joined (next p) (next y.1)))
+          (1 + max (depth a) (max (max 0 (depth b)) (alts_depth xs)))),
+    )) (alts_back y.0)
+    ∙ ap (λ d. run (seen r (after y.1)) (
+      fs,
+      frame.have (found (ex.Case z.0 (ex.an_alt h.0 x.0 (between q x.1) y.0) (joined (next p) (next y.1)))
+          (1 + max (depth a) d)),
+    )) (zero_max (depth b) (alts_depth xs))

@@ -36,7 +36,8 @@ reads_decls (d ∷ ds) i is before n p =
     ∙ ap (λ ds'. Some (module_of is ds')) (append_assoc before (x.0 ∷ []) y.0)
 
 -- the first declaration ends the imports
-imports_end : (ds : List mo.Decl) (fs : List Frame) (p : Places) → run (seen (print_decls ds []) p) (fs, frame.at_import) ≡ run (seen (print_decls ds []) p) (fs, frame.at_decl)
+imports_end : (ds : List mo.Decl) (fs : List Frame) (p : Places)
+    → run (seen (print_decls ds []) p) (fs, frame.at_import) ≡ run (seen (print_decls ds []) p) (fs, frame.at_decl)
 imports_end [] fs p = refl
 imports_end (mo.Grammar x ps t e s ∷ ds) fs p = refl
 imports_end (mo.Value x ps t e s ∷ ds) fs p = refl
@@ -46,7 +47,8 @@ imports_end (mo.BitsUnion x cs s ∷ ds) fs p = refl
 
 reads_imports : (is : List Import) (ds : List mo.Decl) → AreDecls ds → (before : List Import) (p : Places)
     → let x = place_imports is p in
-    run (seen (print_imports is (print_decls ds [])) p) (frame.in_module (module_of before []) 0 ∷ [], frame.at_import) ≡ Some (module_of (before ++ x.0) (place_decls ds x.1).0)
+    run (seen (print_imports is (print_decls ds [])) p) (frame.in_module (module_of before []) 0 ∷ [], frame.at_import)
+    ≡ Some (module_of (before ++ x.0) (place_decls ds x.1).0)
 reads_imports [] ds i before p =
     imports_end ds (frame.in_module (module_of before []) 0 ∷ []) p
     ∙ reads_decls ds i before [] 0 p
@@ -58,7 +60,8 @@ reads_imports (a ∷ is) ds i before p =
     ∙ ap (λ is'. Some (module_of is' (place_decls ds y.1).0)) (append_assoc before (x.0 ∷ []) y.0)
 
 -- the machine reads each module of the grammar, each part where its tokens stand
-pub reads_module : (a : mo.Module) → IsModule a → (spans : List Span) → parsed (seen (print_module a) (record { last = nowhere; rest = spans })) ≡ Some (placed a spans)
+pub reads_module : (a : mo.Module) → IsModule a → (spans : List Span)
+    → parsed (seen (print_module a) (record { last = nowhere; rest = spans })) ≡ Some (placed a spans)
 reads_module a i spans = reads_imports a.imports a.decls i [] (record { last = nowhere; rest = spans })
 
 some_one : (a b : mo.Module) → Some a ≡ Some b → a ≡ b
@@ -66,4 +69,5 @@ some_one a b e = cc
 
 -- two modules of the grammar with the same print differ in nothing but spans
 pub one_module : (a b : mo.Module) → IsModule a → IsModule b → print_module a ≡ print_module b → SameButSpans a b
-one_module a b i j e = λ spans. some_one (placed a spans) (placed b spans) (sym (reads_module a i spans) ∙ ap (λ xs. parsed (seen xs (record { last = nowhere; rest = spans }))) e ∙ reads_module b j spans)
+one_module a b i j e = λ spans. some_one (placed a spans) (placed b spans) (sym (reads_module a i spans)
+    ∙ ap (λ xs. parsed (seen xs (record { last = nowhere; rest = spans }))) e ∙ reads_module b j spans)

@@ -44,11 +44,13 @@ reads_type (ty.Float s) fs r p = refl
 reads_type (ty.Double s) fs r p = refl
 reads_type (ty.Maybe t s) fs r p =
     reads_type t (frame.in_maybe (next p) ∷ fs) r (after p)
-    ∙ ap (λ s. run (seen r (place_type t (after p)).1) (type_done fs (ty.Maybe (place_type t (after p)).0 (joined (next p) s)) (1 + type_depth t))) (type_span_placed t (after p))
+    ∙ ap (λ s. run (seen r (place_type t (after p)).1) (type_done fs (ty.Maybe (place_type t (after p)).0 (joined (next p) s)) (1 + type_depth t)))
+    (type_span_placed t (after p))
 reads_type (ty.ArrayOf t s) fs r p = reads_type t (frame.in_bracket (next p) ∷ fs) (k.Mark m.CloseBracket ∷ r) (after p)
 reads_type (ty.MapOf t u s) fs r p =
     reads_type t (frame.in_bracket (next p) ∷ fs) (k.Mark m.Arrow ∷ print_type u (k.Mark m.CloseBracket ∷ r)) (after p)
-    ∙ reads_type u (frame.in_map_value (next p) (found_type (place_type t (after p)).0 (type_depth t)) ∷ fs) (k.Mark m.CloseBracket ∷ r) (after (place_type t (after p)).1)
+    ∙ reads_type u (frame.in_map_value (next p) (found_type (place_type t (after p)).0 (type_depth t)) ∷ fs) (k.Mark m.CloseBracket ∷ r)
+    (after (place_type t (after p)).1)
 reads_type (ty.Empty s) fs r p = refl
 reads_type (ty.Named x) fs r p = refl
 reads_type (ty.Within t s) fs r p = reads_type t (frame.in_within (next p) ∷ fs) (k.Mark m.CloseParen ∷ r) (after p)

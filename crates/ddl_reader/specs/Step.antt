@@ -12,9 +12,17 @@ use Rattle.ddl_reader.specs.Frames as frame
 use Rattle.ddl_reader.specs.StepType.{begin_type, width_uint, width_sint, close_empty, after_element, after_map_value, after_within}
 use Rattle.ddl_reader.specs.StepClass.{class_done, begin_class, last_byte, after_grouped, after_class_set}
 use Rattle.ddl_reader.specs.StepExpr.{hole, binds, begin, extend, with_argument, closes}
-use Rattle.ddl_reader.specs.StepParts.{after_paren, after_paren_type, after_high, after_between, after_condition, after_then, after_start, after_for_list, after_map_list, open_for_with, for_name_with, for_equals_with, open_map_with, first_name, after_first_name, second_name, in_with, shape_with, field_with, after_set, after_array, first_field, next_field, record_equals_with, after_field, tag_name_with, after_tag_with, after_tagged}
-use Rattle.ddl_reader.specs.StepLists.{open_block_with, let_name_with, item_equals_with, after_item, open_choice_with, after_untagged, want_tag_with, tag_equals_with, after_with_tags, after_subject, open_case_with, pattern_with, just_with, tag_with, arrow_with, after_alt}
-use Rattle.ddl_reader.specs.StepDecl.{begin_decl, begin_import, import_name, decl_name, param_with, param_name, param_colon_with, after_param_type, after_result, close_body, class_equals_with, close_class_body, after_class_body, bits_name, after_bits_name_with, open_cons_with, con_name, con_equals_with, after_con_with, bits_with, with_part, part_with, part_colon_with, part_of, after_part_with}
+use Rattle.ddl_reader.specs.StepParts.{after_paren, after_paren_type, after_high, after_between, after_condition, after_then, after_start, after_for_list}
+use Rattle.ddl_reader.specs.StepParts.{after_map_list, open_for_with, for_name_with, for_equals_with, open_map_with, first_name, after_first_name, second_name}
+use Rattle.ddl_reader.specs.StepParts.{in_with, shape_with, field_with, after_set, after_array, first_field, next_field, record_equals_with, after_field}
+use Rattle.ddl_reader.specs.StepParts.{tag_name_with, after_tag_with, after_tagged}
+use Rattle.ddl_reader.specs.StepLists.{open_block_with, let_name_with, item_equals_with, after_item, open_choice_with, after_untagged, want_tag_with}
+use Rattle.ddl_reader.specs.StepLists.{tag_equals_with, after_with_tags, after_subject, open_case_with, pattern_with, just_with, tag_with, arrow_with}
+use Rattle.ddl_reader.specs.StepLists.{after_alt}
+use Rattle.ddl_reader.specs.StepDecl.{begin_decl, begin_import, import_name, decl_name, param_with, param_name, param_colon_with, after_param_type}
+use Rattle.ddl_reader.specs.StepDecl.{after_result, close_body, class_equals_with, close_class_body, after_class_body, bits_name, after_bits_name_with}
+use Rattle.ddl_reader.specs.StepDecl.{open_cons_with, con_name, con_equals_with, after_con_with, bits_with, with_part, part_with, part_colon_with, part_of}
+use Rattle.ddl_reader.specs.StepDecl.{after_part_with}
 
 -- the token after a type
 abbrev pub step_type : List Frame → FoundType → Tok → Span → Option State

@@ -18,7 +18,11 @@ found_class c n = record { class = c; deep = n }
 -- a whole factor of a class ends a complement
 abbrev pub class_done : List Frame → cls.Cls → ℕ → State
 class_done (frame.in_other s ∷ fs) c n = class_done fs (cls.Other c (joined s (class_span c))) (1 + n)
-class_done (frame.in_union a ∷ fs) c n = (fs, frame.have_class (found_class (cls.Union a.class c (joined (class_span a.class) (class_span c))) (1 + max a.deep n)))
+class_done (frame.in_union a ∷ fs) c n = (
+  fs,
+  frame.have_class
+      (found_class (cls.Union a.class c (joined (class_span a.class) (class_span c))) (1 + max a.deep n)),
+)
 class_done fs c n = (fs, frame.have_class (found_class c n))
 
 -- the first token of a class

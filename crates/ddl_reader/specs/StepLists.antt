@@ -46,7 +46,10 @@ field_of_block from is n _ _ fs = None
 
 abbrev pub after_item : Tok → Span → Span → List ex.Item → ℕ → Start → Found → List Frame → Option State
 after_item (k.Mark m.Semicolon) s from is n b a fs = Some (frame.in_block from (is ++ started b a ∷ []) (max n a.deep) frame.plainly ∷ fs, frame.want)
-after_item (k.Mark m.CloseBrace) s from is n b a fs = Some (fs, frame.have (found (ex.Block (items_of (is ++ started b a ∷ [])) (joined from s)) (1 + max n a.deep)))
+after_item (k.Mark m.CloseBrace) s from is n b a fs = Some (
+  fs,
+  frame.have (found (ex.Block (items_of (is ++ started b a ∷ [])) (joined from s)) (1 + max n a.deep)),
+)
 after_item (k.Mark m.Equals) s from is n b a fs = field_of_block from is n b a.expr fs
 after_item _ s from is n b a fs = None
 
@@ -62,7 +65,10 @@ first_tag r _ _ fs = None
 
 abbrev pub after_untagged : Tok → Span → Repeat → List ex.Expr → ℕ → Found → List Frame → Option State
 after_untagged (k.Mark m.Semicolon) s r xs n a fs = Some (frame.in_untagged r (xs ++ a.expr ∷ []) (max n a.deep) ∷ fs, frame.want)
-after_untagged (k.Mark m.CloseBrace) s r xs n a fs = Some (fs, frame.have (found (ex.Choice r.bias (ex.Untagged (exprs_of (xs ++ a.expr ∷ []))) (joined r.from s)) (1 + max n a.deep)))
+after_untagged (k.Mark m.CloseBrace) s r xs n a fs = Some (
+  fs,
+  frame.have (found (ex.Choice r.bias (ex.Untagged (exprs_of (xs ++ a.expr ∷ []))) (joined r.from s)) (1 + max n a.deep)),
+)
 after_untagged (k.Mark m.Equals) s r xs n a fs = first_tag r xs a.expr fs
 after_untagged _ s r xs n a fs = None
 
@@ -76,7 +82,8 @@ tag_equals_with _ r bs n x fs = None
 
 abbrev pub after_with_tags : Tok → Span → Repeat → List ex.Binding → ℕ → Name → Found → List Frame → Option State
 after_with_tags (k.Mark m.Semicolon) s r bs n x a fs = Some (fs, frame.want_tag r (bs ++ bound_to x a ∷ []) (max n a.deep))
-after_with_tags (k.Mark m.CloseBrace) s r bs n x a fs = Some (fs, frame.have (found (ex.Choice r.bias (ex.WithTags (bindings_of (bs ++ bound_to x a ∷ []))) (joined r.from s)) (1 + max n a.deep)))
+after_with_tags (k.Mark m.CloseBrace) s r bs n x a fs =
+    Some (fs, frame.have (found (ex.Choice r.bias (ex.WithTags (bindings_of (bs ++ bound_to x a ∷ []))) (joined r.from s)) (1 + max n a.deep)))
 after_with_tags _ s r bs n x a fs = None
 
 -- ---- case
@@ -125,6 +132,12 @@ abbrev pub alt_of : Pat → Found → ex.Alt
 alt_of p a = record { pattern = p; body = a.expr; span = joined (pattern_span p) (expr_span a.expr) }
 
 abbrev pub after_alt : Tok → Span → Span → Found → List ex.Alt → ℕ → Pat → Found → List Frame → Option State
-after_alt (k.Mark m.Semicolon) s from e xs n p a fs = Some (fs, frame.want_pattern (record { from = from; subject = e; alts = xs ++ alt_of p a ∷ []; deep = max n a.deep }))
-after_alt (k.Mark m.CloseBrace) s from e xs n p a fs = Some (fs, frame.have (found (ex.Case e.expr (alts_of (xs ++ alt_of p a ∷ [])) (joined from s)) (1 + max e.deep (max n a.deep))))
+after_alt (k.Mark m.Semicolon) s from e xs n p a fs = Some (
+  fs,
+  frame.want_pattern (record { from = from; subject = e; alts = xs ++ alt_of p a ∷ []; deep = max n a.deep }),
+)
+after_alt (k.Mark m.CloseBrace) s from e xs n p a fs = Some (
+  fs,
+  frame.have (found (ex.Case e.expr (alts_of (xs ++ alt_of p a ∷ [])) (joined from s)) (1 + max e.deep (max n a.deep))),
+)
 after_alt _ s from e xs n p a fs = None

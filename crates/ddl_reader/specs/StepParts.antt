@@ -134,7 +134,10 @@ after_set _ s from c fs = None
 
 abbrev pub after_array : Tok → Span → Span → List ex.Expr → ℕ → Found → List Frame → Option State
 after_array (k.Mark m.Comma) s from xs n a fs = Some (frame.in_array from (xs ++ a.expr ∷ []) (max n a.deep) ∷ fs, frame.want)
-after_array (k.Mark m.CloseBracket) s from xs n a fs = Some (fs, frame.have (found (ex.Array (exprs_of (xs ++ a.expr ∷ [])) (joined from s)) (1 + max n a.deep)))
+after_array (k.Mark m.CloseBracket) s from xs n a fs = Some (
+  fs,
+  frame.have (found (ex.Array (exprs_of (xs ++ a.expr ∷ [])) (joined from s)) (1 + max n a.deep)),
+)
 after_array _ s from xs n a fs = None
 
 abbrev pub bound_to : Name → Found → ex.Binding
@@ -155,7 +158,10 @@ record_equals_with _ from bs n x fs = None
 
 abbrev pub after_field : Tok → Span → Span → List ex.Binding → ℕ → Name → Found → List Frame → Option State
 after_field (k.Mark m.Comma) s from bs n x a fs = Some (fs, frame.next_of_record from (bs ++ bound_to x a ∷ []) (max n a.deep))
-after_field (k.Mark m.CloseBrace) s from bs n x a fs = Some (fs, frame.have (found (ex.RecordOf (bindings_of (bs ++ bound_to x a ∷ [])) (joined from s)) (1 + max n a.deep)))
+after_field (k.Mark m.CloseBrace) s from bs n x a fs = Some (
+  fs,
+  frame.have (found (ex.RecordOf (bindings_of (bs ++ bound_to x a ∷ [])) (joined from s)) (1 + max n a.deep)),
+)
 after_field _ s from bs n x a fs = None
 
 abbrev pub tag_name_with : Tok → Span → Span → List Frame → Option State

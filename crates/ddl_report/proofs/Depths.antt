@@ -67,11 +67,13 @@ mutual
   plains-depth p.none = omega arith
   plains-depth (p.one v vs) = let part = plain-depth v in let rest = plains-depth vs in omega arith
 
-  fields-depth : (vs : p.Printables) (names : List (List ℕ)) (ms : Members) (n : ℕ) → members_depth ms ≤ n → members_depth (fields_data vs names ms) ≤ max n (p.fields_deep vs names)
+  fields-depth : (vs : p.Printables) (names : List (List ℕ)) (ms : Members) (n : ℕ) → members_depth ms ≤ n
+      → members_depth (fields_data vs names ms) ≤ max n (p.fields_deep vs names)
   fields-depth p.none names ms n e = omega arith
   fields-depth (p.one v vs) [] ms n e = omega arith
   fields-depth (p.one v vs) (name ∷ names) ms n e =
       let hidden = p.is_hidden name in
       let here = p.deep v in
       let rest = p.fields_deep vs names in
-      le_over _ _ _ (fields-depth vs names _ (if hidden then n else max n here) (field-depth hidden (shown name) (plain_data v) ms n here (plain-depth v) e)) (regroup hidden n here rest)
+      le_over _ _ _ (fields-depth vs names _ (if hidden then n else max n here) (field-depth hidden (shown name) (plain_data v) ms n here (plain-depth v) e))
+      (regroup hidden n here rest)

@@ -14,7 +14,8 @@ use Rattle.ddl_report.specs.Refusal.{refusal_data}
 use Rattle.ddl_report.specs.Values.{plain_data}
 use Rattle.ddl_report.specs.declared.closing.Closing.TheVariants as closing_is
 
-text_found : line_text (parse_data 2 true (plain_data (p.array (p.one (p.number (pos 97)) (p.one (p.number (pos 98)) p.none))))) ≡ codes "{\"end\":2,\"in\":\"input\",\"value\":[97,98]}\n"
+text_found : line_text (parse_data 2 true (plain_data (p.array (p.one (p.number (pos 97)) (p.one (p.number (pos 98)) p.none)))))
+    ≡ codes "{\"end\":2,\"in\":\"input\",\"value\":[97,98]}\n"
 unfolding serde_json_on_literals digits is_utf8 chars
 text_found = refl
 
@@ -32,12 +33,14 @@ missing : line_text (closing_data (closing_is.Missing (97 ∷ 255 ∷ []))) ≡ 
 unfolding serde_json_on_literals digits is_utf8 chars
 missing = refl
 
-overflow : line_text (closing_data (closing_is.Fault fault_is.Overflow (codes "A") 4 8)) ≡ codes "{\"fault\":{\"from\":4,\"kind\":\"overflow\",\"module\":\"A\",\"to\":8}}\n"
+overflow : line_text (closing_data (closing_is.Fault fault_is.Overflow (codes "A") 4 8))
+    ≡ codes "{\"fault\":{\"from\":4,\"kind\":\"overflow\",\"module\":\"A\",\"to\":8}}\n"
 unfolding serde_json_on_literals digits is_utf8 chars
 overflow = refl
 
 -- of two fields `a` the last one is written, and `_` is not
-doubled : line_text (plain_data (p.fields (codes "a" ∷ codes "_" ∷ codes "B" ∷ codes "a" ∷ []) (p.one p.unit (p.one p.unit (p.one p.nothing (p.one (p.bool false) p.none))))))
+doubled : line_text (plain_data (p.fields (codes "a" ∷ codes "_" ∷ codes "B" ∷ codes "a" ∷ [])
+    (p.one p.unit (p.one p.unit (p.one p.nothing (p.one (p.bool false) p.none))))))
     ≡ codes "{\"B\":null,\"a\":false}\n"
 unfolding serde_json_on_literals digits is_utf8 chars
 doubled = refl
@@ -58,7 +61,8 @@ stream : line_text (plain_data (p.stream false 1 3)) ≡ codes "{\"$stream\":{\"
 unfolding serde_json_on_literals digits is_utf8 chars
 stream = refl
 
-bad_byte : line_text (refusal_data stage_is.Lex 4 (codes "A") 13 13 []) ≡ codes "{\"refused\":{\"code\":\"lex.4\",\"from\":13,\"module\":\"A\",\"more\":[],\"to\":13}}\n"
+bad_byte : line_text (refusal_data stage_is.Lex 4 (codes "A") 13 13 [])
+    ≡ codes "{\"refused\":{\"code\":\"lex.4\",\"from\":13,\"module\":\"A\",\"more\":[],\"to\":13}}\n"
 unfolding serde_json_on_literals digits is_utf8 chars
 bad_byte = refl
 

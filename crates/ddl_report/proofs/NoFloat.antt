@@ -69,14 +69,16 @@ mutual
   plain-no_float (p.fields names vs) = fields-no_float vs names no_members refl
   plain-no_float (p.union tag v) = neither (has_float (plain_data v)) false (plain-no_float v) refl
   plain-no_float (p.array vs) = plains-no_float vs
-  plain-no_float (p.entries ks vs) = neither (items_have_float (entries_data (plains_data ks) (plains_data vs))) false (entries-no_float (plains_data ks) (plains_data vs) (plains-no_float ks) (plains-no_float vs)) refl
+  plain-no_float (p.entries ks vs) = neither (items_have_float (entries_data (plains_data ks) (plains_data vs))) false
+      (entries-no_float (plains_data ks) (plains_data vs) (plains-no_float ks) (plains-no_float vs)) refl
   plain-no_float (p.stream in_input from to) = refl
 
   plains-no_float : (vs : p.Printables) → items_have_float (plains_data vs) ≡ false
   plains-no_float p.none = refl
   plains-no_float (p.one v vs) = neither (has_float (plain_data v)) _ (plain-no_float v) (plains-no_float vs)
 
-  fields-no_float : (vs : p.Printables) (names : List (List ℕ)) (ms : Members) → members_have_float ms ≡ false → members_have_float (fields_data vs names ms) ≡ false
+  fields-no_float : (vs : p.Printables) (names : List (List ℕ)) (ms : Members) → members_have_float ms ≡ false
+      → members_have_float (fields_data vs names ms) ≡ false
   fields-no_float p.none names ms e = e
   fields-no_float (p.one v vs) [] ms e = e
   fields-no_float (p.one v vs) (name ∷ names) ms e =

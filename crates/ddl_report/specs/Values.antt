@@ -15,7 +15,8 @@ place_data in_input = string (if in_input then codes "input" else codes "array")
 
 abbrev pub stream_data : Bool → ℕ → ℕ → Data
 stream_data in_input from to =
-    only (codes "$stream") (object (member (codes "from") (natural from) (member (codes "in") (place_data in_input) (member (codes "to") (natural to) no_members))))
+    only (codes "$stream") (object (member (codes "from") (natural from)
+    (member (codes "in") (place_data in_input) (member (codes "to") (natural to) no_members))))
 
 -- an entry of a map, as a list of its key and its value
 abbrev pub entry_data : Data → Data → Data

@@ -1,7 +1,8 @@
 ghost use Rattle.std.specs.Prelude.{◌≡◌, IfOk};
 ghost use Rattle.serde_json.specs.View.{view, members_view};
 ghost use Rattle.ddl_report.specs.Lines.{line_text};
-ghost use Rattle.ddl_report.specs.Closing.{HasItsText, closing_data, counts_data, fail_data, fault_data, fault_name, missing, stopped, tail_members, why_name};
+ghost use Rattle.ddl_report.specs.Closing.{HasItsText, closing_data, counts_data, fail_data, fault_data, fault_name};
+ghost use Rattle.ddl_report.specs.Closing.{missing, stopped, tail_members, why_name};
 
 use crate::line::line_of;
 use crate::names::{characters, name_text, place_name};

@@ -4,7 +4,8 @@ ghost use Rattle.serde_json.specs.View.{view, items_view, members_view};
 ghost use Rattle.ddl_types.specs.Plain.{ArePaired, IsPaired, is_hidden};
 ghost use Rattle.ddl_types.specs.PlainView.{plain_view, plains_view};
 ghost use Rattle.ddl_report.specs.Names.{shown};
-ghost use Rattle.ddl_report.specs.Values.{entries_data, entry_data, fields_data, only, plain_data, plains_data, stream_data};
+ghost use Rattle.ddl_report.specs.Values.{entries_data, entry_data, fields_data, only, plain_data, plains_data};
+ghost use Rattle.ddl_report.specs.Values.{stream_data};
 
 use crate::names::{name_text, place_name};
 use crate::numbers::number_value;

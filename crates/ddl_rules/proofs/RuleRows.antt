@@ -99,7 +99,8 @@ first_in_order : type_refusal (w.MapOf (w.Float (place 1 6)) (w.Uint (number 0 1
 first_in_order = refl
 
 -- [K -> F]: their variables are `?5`, and `?6` and `?7`
-two_uses : written known (w.MapOf (w.Named (name (codes "K") 1 2)) (w.Named (name (codes "F") 6 7)) (place 0 8)) (before 5 (use_at 1 2 (Decl 0) ∷ use_at 6 7 (Decl 1) ∷ use_at 9 10 (Decl 2) ∷ []))
+two_uses : written known (w.MapOf (w.Named (name (codes "K") 1 2)) (w.Named (name (codes "F") 6 7)) (place 0 8))
+    (before 5 (use_at 1 2 (Decl 0) ∷ use_at 6 7 (Decl 1) ∷ use_at 9 10 (Decl 2) ∷ []))
     ≡ record { of = con map_of (more (var 5) (more (con array_of (more (var 7) none)) none)); state = before 8 (use_at 9 10 (Decl 2) ∷ []) }
 two_uses = refl
 
@@ -107,7 +108,12 @@ two_uses = refl
 
 -- just x
 just_x : fitted (p.Just (Called (name (codes "x") 25 26)) (place 20 26)) subject (scope (v ∷ [])) (before 7 [])
-    ≡ record { pattern = pattern.Just (Some 1); asks = wants subject (maybe_type (var 7)) (place 20 26) ∷ []; env = scope (v ∷ value 1 25 26 (var 7) ∷ []); state = before 8 [] }
+    ≡ record {
+      pattern = pattern.Just (Some 1);
+      asks = wants subject (maybe_type (var 7)) (place 20 26) ∷ [];
+      env = scope (v ∷ value 1 25 26 (var 7) ∷ []);
+      state = before 8 [];
+    }
 just_x = refl
 
 -- 'a'
@@ -117,12 +123,24 @@ letter = refl
 
 -- some _: what is asked stands at the whole pattern
 some_content : fitted (p.Tag (name (codes "some") 20 24) (Some (Ignored (place 25 26))) (place 20 26)) subject (scope (v ∷ [])) (before 7 [])
-    ≡ record { pattern = pattern.Tag (codes "some") None; asks = asks_for (tag subject (codes "some") (var 7)) (place 20 26) ∷ []; env = scope (v ∷ []); state = before 8 [] }
+    ≡ record {
+      pattern = pattern.Tag (codes "some") None;
+      asks = asks_for (tag subject (codes "some") (var 7)) (place 20 26) ∷ [];
+      env = scope (v ∷ []);
+      state =
+          before 8 [];
+    }
 some_content = refl
 
 -- v is some: the tag is asked at the whole form
 is_some : guarded (h.IsTag (name (codes "some") 15 19)) subject (place 10 19) (before 7 [])
-    ≡ record { pattern = pattern.Tag (codes "some") None; asks = asks_for (tag subject (codes "some") (var 7)) (place 10 19) ∷ []; of = var 7; state = before 8 [] }
+    ≡ record {
+      pattern = pattern.Tag (codes "some") None;
+      asks = asks_for (tag subject (codes "some") (var 7)) (place 10 19) ∷ [];
+      of = var 7;
+      state =
+          before 8 [];
+    }
 is_some = refl
 
 -- v is true: `bool` is asked at the word
@@ -143,7 +161,8 @@ one_in_scope = refl
 two_names : turn_binder (Some (name (codes "x") 23 24)) (scope (v ∷ [])) ≡ record { key = Some 1; element = 2 }
 two_names = refl
 
-two_in_scope : with_names (place 20 21) (Some (name (codes "x") 23 24)) (var 8) (var 9) (scope (v ∷ [])) ≡ scope (v ∷ value 1 20 21 (var 8) ∷ value 2 23 24 (var 9) ∷ [])
+two_in_scope : with_names (place 20 21) (Some (name (codes "x") 23 24)) (var 8) (var 9) (scope (v ∷ []))
+    ≡ scope (v ∷ value 1 20 21 (var 8) ∷ value 2 23 24 (var 9) ∷ [])
 two_in_scope = refl
 
 -- ---- classes
@@ -154,8 +173,14 @@ not_a_byte : class_made (y.Range (Code (number 300 3 20 23)) (Quoted 122 (place 
 not_a_byte = refl
 
 -- $c | 65
-named : class_made (y.Union (y.Known (name (codes "$c") 20 22)) (y.One (Code (number 65 2 25 27))) (place 20 27)) (scope []) (before 7 (use_at 20 22 (Decl 4) ∷ use_at 30 31 (Decl 2) ∷ []))
-    ≡ record { class = t.or_ (t.declared 4) (t.range 65 65); asks = asks_for (lit 65 byte_type) (place 25 27) ∷ []; state = before 7 (use_at 30 31 (Decl 2) ∷ []) }
+named : class_made (y.Union (y.Known (name (codes "$c") 20 22)) (y.One (Code (number 65 2 25 27))) (place 20 27)) (scope [])
+    (before 7 (use_at 20 22 (Decl 4) ∷ use_at 30 31 (Decl 2) ∷ []))
+    ≡ record {
+      class = t.or_ (t.declared 4) (t.range 65 65);
+      asks = asks_for (lit 65 byte_type) (place 25 27) ∷ [];
+      state =
+          before 7 (use_at 30 31 (Decl 2) ∷ []);
+    }
 named = refl
 
 -- ---- names with arguments
@@ -167,7 +192,15 @@ lookup = refl
 
 -- F e: its variables are the next two here
 at_new_variables : target (Some (Decl 1)) (scope []) (before 7 [])
-    ≡ record { meant = m.Declaration 1 2 7; kinds = k.Value ∷ []; params = var 7 ∷ []; of = con array_of (more (var 8) none); conditions = num (var 7) ∷ []; state = before 9 [] }
+    ≡ record {
+      meant = m.Declaration 1 2 7;
+      kinds = k.Value ∷ [];
+      params = var 7 ∷ [];
+      of = con array_of (more (var 8) none);
+      conditions =
+          num (var 7) ∷ [];
+      state = before 9 [];
+    }
 at_new_variables = refl
 
 -- G e: its types are those of the group

@@ -12,7 +12,8 @@ pub find_seen : {X Y : Type 0} (f : X → Y) (p : Y → Bool) (xs : List X) → 
 find_seen f p [] = refl
 find_seen f p (x ∷ xs) = by_test (find_seen f p xs) (p (f x)) refl
   where
-    by_test : find p (map f xs) ≡ option_map f (find (λ y. p (f y)) xs) → (b : Bool) → p (f x) ≡ b → find p (map f (x ∷ xs)) ≡ option_map f (find (λ y. p (f y)) (x ∷ xs))
+    by_test : find p (map f xs) ≡ option_map f (find (λ y. p (f y)) xs) → (b : Bool) → p (f x) ≡ b
+        → find p (map f (x ∷ xs)) ≡ option_map f (find (λ y. p (f y)) (x ∷ xs))
     by_test ih true e = search (rules, e)
     by_test ih false e = search (rules, e, ih)
 
@@ -21,7 +22,8 @@ pub seen_behind : {X Y : Type 0} (f : X → Y) (r : Option (Bor X)) → option_m
 seen_behind f None = refl
 seen_behind f (Some x) = refl
 
-pub local_seen : (r : Option (Bor Local)) (locals : List Local) (s : Span) → option_map (λ l. l.now) r ≡ find (λ l. a.same_span l.at s) locals → option_map (λ l. local_view l.now) r ≡ a.local_at s (map local_view locals)
+pub local_seen : (r : Option (Bor Local)) (locals : List Local) (s : Span) → option_map (λ l. l.now) r ≡ find (λ l. a.same_span l.at s) locals
+    → option_map (λ l. local_view l.now) r ≡ a.local_at s (map local_view locals)
 local_seen r locals s e = sym (seen_behind local_view r) ∙ ap (option_map local_view) e ∙ sym (find_seen local_view (λ l. a.same_span l.at s) locals)
 
 pub ruleset scoping = (local_seen, take-map, map-set)

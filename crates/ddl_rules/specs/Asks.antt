@@ -3,7 +3,8 @@ use Rattle.std.specs.Prelude.{ℕ, ◌+◌, ◌==◌, ◌&&◌, List, [], ◌∷
 use Rattle.ddl_base.specs.declared.span.Span.{Span}
 use Rattle.ddl_tree.specs.declared.kind.Kind.{Kind}
 use Rattle.ddl_tree.specs.declared.kind.Kind.TheVariants as k
-use Rattle.ddl_types.specs.Types.{Ty, Ty.con, Tys.none, Tys.more, Head.unit, Head.array_of, Head.map_of, Head.maybe_of, Head.uint, Head.bool, Head.stream, Head.place}
+use Rattle.ddl_types.specs.Types.{Ty, Ty.con, Tys.none, Tys.more, Head.unit, Head.array_of, Head.map_of, Head.maybe_of, Head.uint, Head.bool, Head.stream}
+use Rattle.ddl_types.specs.Types.{Head.place}
 use Rattle.ddl_types.specs.Conditions.{Condition}
 use Rattle.ddl_unify.specs.Equations.{Equation, equal}
 use Rattle.ddl_judging.specs.Demands.{Demand, condition}

@@ -39,7 +39,8 @@ named_class env (Some (b.Local s)) = class_parameter (number_of (local_at s env.
 named_class env other = class_parameter 0
 
 abbrev pub class_made : y.Cls → Env → State → MadeClass
-class_made (y.Union a b s) env z = let l = class_made a env z in let r = class_made b env l.state in record { class = or_ l.class r.class; asks = l.asks ++ r.asks; state = r.state }
+class_made (y.Union a b s) env z = let l = class_made a env z in let r =
+    class_made b env l.state in record { class = or_ l.class r.class; asks = l.asks ++ r.asks; state = r.state }
 class_made (y.One b) env z = record { class = range (byte_of b) (byte_of b); asks = byte_asks b; state = z }
 class_made (y.Range a b s) env z = record { class = range (byte_of a) (byte_of b); asks = byte_asks a ++ byte_asks b; state = z }
 class_made (y.Known x) env z = record { class = named_class env (bound_next z.uses); asks = []; state = after_use z }

@@ -51,8 +51,20 @@ fitted (p.Char b s) u env z = record { pattern = t.Number b; asks = wants u (wor
 fitted (p.True s) u env z = record { pattern = t.Truth true; asks = wants u bool_type s ∷ []; env = env; state = z }
 fitted (p.False s) u env z = record { pattern = t.Truth false; asks = wants u bool_type s ∷ []; env = env; state = z }
 fitted (p.Nothing s) u env z = record { pattern = t.Nothing; asks = wants u (maybe (var z.next)) s ∷ []; env = env; state = after_variables 1 z }
-fitted (p.Just b s) u env z = record { pattern = t.Just (bound_number b env); asks = wants u (maybe (var z.next)) s ∷ []; env = with_binder b (var z.next) env; state = after_variables 1 z }
-fitted (p.Tag x b s) u env z = record { pattern = t.Tag x.text (content_number b env); asks = asks_for (tag u x.text (var z.next)) s ∷ []; env = with_content b (var z.next) env; state = after_variables 1 z }
+fitted (p.Just b s) u env z = record {
+  pattern = t.Just (bound_number b env);
+  asks = wants u (maybe (var z.next)) s ∷ [];
+  env =
+      with_binder b (var z.next) env;
+  state = after_variables 1 z;
+}
+fitted (p.Tag x b s) u env z = record {
+  pattern = t.Tag x.text (content_number b env);
+  asks = asks_for (tag u x.text (var z.next)) s ∷ [];
+  env =
+      with_content b (var z.next) env;
+  state = after_variables 1 z;
+}
 
 -- this is the pattern, and elaboration goes on so
 pub record IsFitted (p : Pattern) (f : Fitted) (old now : Elaboration) : Type 0 where
@@ -69,7 +81,13 @@ pub record Guarded : Type 0 where
   pub state : State
 
 abbrev pub guarded : Shape → Ty → Span → State → Guarded
-guarded (h.IsTag x) u s z = record { pattern = t.Tag x.text None; asks = asks_for (tag u x.text (var z.next)) s ∷ []; of = var z.next; state = after_variables 1 z }
+guarded (h.IsTag x) u s z = record {
+  pattern = t.Tag x.text None;
+  asks = asks_for (tag u x.text (var z.next)) s ∷ [];
+  of = var z.next;
+  state =
+      after_variables 1 z;
+}
 guarded (h.IsTrue w) u s z = record { pattern = t.Truth true; asks = wants u bool_type w ∷ []; of = unit_type; state = z }
 guarded (h.IsFalse w) u s z = record { pattern = t.Truth false; asks = wants u bool_type w ∷ []; of = unit_type; state = z }
 guarded (h.IsJust w) u s z = record { pattern = t.Just None; asks = wants u (maybe (var z.next)) w ∷ []; of = var z.next; state = after_variables 1 z }

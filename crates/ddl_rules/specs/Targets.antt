@@ -30,7 +30,15 @@ pub record Target : Type 0 where
 -- a declaration at new variables
 abbrev pub of_declaration : ℕ → Known → State → Target
 of_declaration d it z = let f = at it.vars z.next in
-    record { meant = m.Declaration d it.vars z.next; kinds = it.kinds; params = map (λ u. on u f) it.params; of = on it.of f; conditions = map (on_condition f) it.conditions; state = after_variables it.vars z }
+    record {
+      meant = m.Declaration d it.vars z.next;
+      kinds = it.kinds;
+      params = map (λ u. on u f) it.params;
+      of = on it.of f;
+      conditions =
+          map (on_condition f) it.conditions;
+      state = after_variables it.vars z;
+    }
 
 abbrev pub of_builtin : BuiltIn → State → Target
 of_builtin x z = let it = builtin_row x z.next in

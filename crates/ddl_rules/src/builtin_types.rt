@@ -98,7 +98,8 @@ fn two(alloc: Global, first: Ty, second: Ty) -> Result<Vec<Ty>, NoMemory>
 
 // A key, a value and a map of these.
 fn key_value_map(alloc: Global, first: u32) -> Result<Vec<Ty>, NoMemory>
-    ensures { IfOk result (λ v. map ty_view v.items ≡ var first ∷ var (first + 1) ∷ map_type (var first) (var (first + 1)) ∷ []) }
+    ensures { IfOk result (λ v. map ty_view v.items ≡ var first ∷ var (first + 1)
+        ∷ map_type (var first) (var (first + 1)) ∷ []) }
 {
     let mut types = Vec::new(alloc);
     types.push(types::variable(first))?;

@@ -112,7 +112,8 @@ impl<'a> Elaboration<'a> {
     #[cycle(class)]
     #[tactic(auto, using(ddl_tree::proofs::Layers::layers, ddl_typed::proofs::Layers::class_layers))]
     pub fn class(&mut self, class: &Cls) -> Result<TClass, NoMemory>
-        ensures { IfOk result (λ c. IsClass c (class_made (tree.class_view class.now) (env_of self.old) (state_of self.old)) (env_of self.old) self.old self.new) }
+        ensures { IfOk result (λ c. IsClass c (class_made (tree.class_view class.now) (env_of self.old)
+            (state_of self.old)) (env_of self.old) self.old self.new) }
     {
         match class {
             Cls::Union { left, right, .. } => {

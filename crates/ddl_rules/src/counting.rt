@@ -23,7 +23,8 @@ impl<'a> Elaboration<'a> {
     /// So many new variables, of which this is the first.
     pub fn variables(&mut self, count: u32) -> Result<u32, NoMemory>
         ensures numbered { IfOk result (λ n. n ≡ (state_of self.old).next) }
-        ensures goes_on { OnOk result (GoesOn [] (after_variables count (state_of self.old)) (env_of self.old) self.old self.new) }
+        ensures goes_on { OnOk result (GoesOn [] (after_variables count (state_of self.old)) (env_of self.old) self.old
+            self.new) }
     {
         let first = self.next;
         self.next = behind(first, count)?;

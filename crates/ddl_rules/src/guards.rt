@@ -21,7 +21,8 @@ impl<'a> Elaboration<'a> {
         subject: &Ty,
         span: Span,
     ) -> Result<(Pattern, Ty), NoMemory>
-        ensures { IfOk result (λ r. IsGuarded r.0 r.1 (guarded shape.now (ty_view subject.now) span (state_of self.old)) (env_of self.old) self.old self.new) }
+        ensures { IfOk result (λ r. IsGuarded r.0 r.1 (guarded shape.now (ty_view subject.now) span (state_of self.old))
+            (env_of self.old) self.old self.new) }
     {
         match shape {
             Shape::IsTag(tag) => {

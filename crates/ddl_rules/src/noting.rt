@@ -32,7 +32,9 @@ impl<'a> Elaboration<'a> {
         types: Vec<Ty>,
     ) -> Result<Ty, NoMemory>
         ensures typed { IfOk result (λ t. ty_view t ≡ place_type (state_of self.old)) }
-        ensures goes_on { OnOk result (GoesOn [] (with_place span tagged names.items (map ty_view types.items) (state_of self.old)) (env_of self.old) self.old self.new) }
+        ensures goes_on { OnOk result (GoesOn []
+            (with_place span tagged names.items (map ty_view types.items) (state_of self.old)) (env_of self.old)
+            self.old self.new) }
     {
         let number = counted(self.places.len())?;
         self.places.push(PlaceType {
@@ -48,7 +50,8 @@ impl<'a> Elaboration<'a> {
     /// The number of one more text of a `Fail`.
     pub fn text(&mut self, text: Bytes) -> Result<u32, NoMemory>
         ensures numbered { IfOk result (λ n. n ≡ length (state_of self.old).texts) }
-        ensures goes_on { OnOk result (GoesOn [] (with_text text (state_of self.old)) (env_of self.old) self.old self.new) }
+        ensures goes_on { OnOk result (GoesOn [] (with_text text (state_of self.old)) (env_of self.old) self.old
+            self.new) }
     {
         let number = counted(self.texts.len())?;
         self.texts.push(text)?;

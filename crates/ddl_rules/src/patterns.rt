@@ -26,7 +26,8 @@ impl<'a> Elaboration<'a> {
 
     // A number fits the subject's type.
     fn is_number(&mut self, subject: &Ty, number: &Number) -> Result<(), NoMemory>
-        ensures { OnOk result (Asks (asks_for (lit number.now.value (ty_view subject.now)) number.now.span ∷ []) self.old self.new) }
+        ensures { OnOk result (Asks (asks_for (lit number.now.value (ty_view subject.now)) number.now.span ∷ [])
+            self.old self.new) }
     {
         let of = subject.copy(self.alloc)?;
         self.require(
@@ -41,7 +42,8 @@ impl<'a> Elaboration<'a> {
     // The subject is a `maybe`, of this variable.
     pub(crate) fn is_maybe(&mut self, subject: &Ty, span: Span) -> Result<Ty, NoMemory>
         ensures typed { IfOk result (λ t. ty_view t ≡ var (state_of self.old).next) }
-        ensures goes_on { OnOk result (GoesOn (wants (ty_view subject.now) (maybe (var (state_of self.old).next)) span ∷ []) (after_variables 1 (state_of self.old)) (env_of self.old) self.old self.new) }
+        ensures goes_on { OnOk result (GoesOn (wants (ty_view subject.now) (maybe (var (state_of self.old).next)) span
+            ∷ []) (after_variables 1 (state_of self.old)) (env_of self.old) self.old self.new) }
     {
         let content = self.variables(1)?;
         let has = types::maybe(self.alloc, types::variable(content))?;
@@ -57,7 +59,9 @@ impl<'a> Elaboration<'a> {
         span: Span,
     ) -> Result<Ty, NoMemory>
         ensures typed { IfOk result (λ t. ty_view t ≡ var (state_of self.old).next) }
-        ensures goes_on { OnOk result (GoesOn (asks_for (tag (ty_view subject.now) name.now.text (var (state_of self.old).next)) span ∷ []) (after_variables 1 (state_of self.old)) (env_of self.old) self.old self.new) }
+        ensures goes_on { OnOk result (GoesOn (asks_for
+            (tag (ty_view subject.now) name.now.text (var (state_of self.old).next)) span ∷ [])
+            (after_variables 1 (state_of self.old)) (env_of self.old) self.old self.new) }
     {
         let content = self.variables(1)?;
         let of = subject.copy(self.alloc)?;
@@ -76,7 +80,8 @@ impl<'a> Elaboration<'a> {
     // The name of a content, where it has one.
     fn bind_content(&mut self, binder: &Binder, of: Ty) -> Result<Option<u32>, NoMemory>
         ensures numbered { IfOk result (λ n. n ≡ bound_number binder.now (env_of self.old)) }
-        ensures goes_on { OnOk result (GoesOn [] (state_of self.old) (with_binder binder.now (ty_view of) (env_of self.old)) self.old self.new) }
+        ensures goes_on { OnOk result (GoesOn [] (state_of self.old)
+            (with_binder binder.now (ty_view of) (env_of self.old)) self.old self.new) }
     {
         match binder {
             Binder::Called(name) => {
@@ -89,7 +94,8 @@ impl<'a> Elaboration<'a> {
 
     fn bind_tagged(&mut self, binder: &Option<Binder>, of: Ty) -> Result<Option<u32>, NoMemory>
         ensures numbered { IfOk result (λ n. n ≡ content_number binder.now (env_of self.old)) }
-        ensures goes_on { OnOk result (GoesOn [] (state_of self.old) (with_content binder.now (ty_view of) (env_of self.old)) self.old self.new) }
+        ensures goes_on { OnOk result (GoesOn [] (state_of self.old)
+            (with_content binder.now (ty_view of) (env_of self.old)) self.old self.new) }
     {
         match binder {
             Some(binder) => self.bind_content(binder, of),
@@ -100,7 +106,8 @@ impl<'a> Elaboration<'a> {
     /// A pattern of an alternative, for a subject of this type. The name of its content is in scope
     /// then.
     pub fn fitted(&mut self, pattern: &Pat, subject: &Ty) -> Result<Pattern, NoMemory>
-        ensures { IfOk result (λ p. IsFitted p (fitted pattern.now (ty_view subject.now) (env_of self.old) (state_of self.old)) self.old self.new) }
+        ensures { IfOk result (λ p. IsFitted p (fitted pattern.now (ty_view subject.now) (env_of self.old)
+            (state_of self.old)) self.old self.new) }
     {
         match pattern {
             Pat::Any(_) => Ok(Pattern::Any),

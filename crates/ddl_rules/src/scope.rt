@@ -41,7 +41,8 @@ impl<'a> Elaboration<'a> {
     /// One more value in scope, and its number.
     pub fn bind(&mut self, name: Span, of: Ty) -> Result<u32, NoMemory>
         ensures numbered { IfOk result (λ n. n ≡ length (env_of self.old).locals) }
-        ensures goes_on { OnOk result (GoesOn [] (state_of self.old) (with_value name (ty_view of) (env_of self.old)) self.old self.new) }
+        ensures goes_on { OnOk result (GoesOn [] (state_of self.old) (with_value name (ty_view of) (env_of self.old))
+            self.old self.new) }
     {
         let number = match u32::try_from(self.locals.len()) {
             Ok(number) => number,

@@ -49,7 +49,8 @@ impl<'a> Elaboration<'a> {
         conds: &[Cond],
         span: Span,
     ) -> Result<(), NoMemory>
-        ensures { OnOk result (Asks (map (λ c. asks_for c span) (map (on_condition (at vars first)) (map cond_view conds.now))) self.old self.new) }
+        ensures { OnOk result (Asks (map (λ c. asks_for c span)
+            (map (on_condition (at vars first)) (map cond_view conds.now))) self.old self.new) }
     {
         for cond in conds {
             let condition = renumbered_cond(self.alloc, vars, first, cond)?;
@@ -73,7 +74,8 @@ impl<'a> Elaboration<'a> {
     }
 
     fn declared(&mut self, number: u32, span: Span) -> Result<Target, NoMemory>
-        ensures { IfOk result (λ t. IsTarget t (of_declaration number ((env_of self.old).known number) (state_of self.old)) span (env_of self.old) self.old self.new) }
+        ensures { IfOk result (λ t. IsTarget t (of_declaration number ((env_of self.old).known number)
+            (state_of self.old)) span (env_of self.old) self.old self.new) }
     {
         match self.known.get(number as usize) {
             Some(known) => {
@@ -103,7 +105,8 @@ impl<'a> Elaboration<'a> {
     }
 
     fn built_in(&mut self, builtin: BuiltIn, span: Span) -> Result<Target, NoMemory>
-        ensures { IfOk result (λ t. IsTarget t (of_builtin builtin (state_of self.old)) span (env_of self.old) self.old self.new) }
+        ensures { IfOk result (λ t. IsTarget t (of_builtin builtin (state_of self.old)) span (env_of self.old) self.old
+            self.new) }
     {
         let first = self.variables(builtin_vars(builtin))?;
         if let Some(condition) = builtin_condition(builtin, first) {
@@ -118,7 +121,8 @@ impl<'a> Elaboration<'a> {
     }
 
     fn local_target(&mut self, binder: Span, span: Span) -> Result<Target, NoMemory>
-        ensures { IfOk result (λ t. IsTarget t (of_local (local_at binder (env_of self.old).locals) (state_of self.old)) span (env_of self.old) self.old self.new) }
+        ensures { IfOk result (λ t. IsTarget t (of_local (local_at binder (env_of self.old).locals) (state_of self.old))
+            span (env_of self.old) self.old self.new) }
     {
         match self.local(binder) {
             Some(local) => {
@@ -135,7 +139,8 @@ impl<'a> Elaboration<'a> {
 
     // What a name that is bound so stands for.
     fn bound_target(&mut self, bound: Option<Bound>, span: Span) -> Result<Target, NoMemory>
-        ensures { IfOk result (λ t. IsTarget t (target bound (env_of self.old) (state_of self.old)) span (env_of self.old) self.old self.new) }
+        ensures { IfOk result (λ t. IsTarget t (target bound (env_of self.old) (state_of self.old)) span
+            (env_of self.old) self.old self.new) }
     {
         match bound {
             Some(Bound::Decl(number)) => self.declared(number, span),
@@ -148,7 +153,8 @@ impl<'a> Elaboration<'a> {
     /// What the next name stands for, whose form is at `span`. What is asked at each of its uses is
     /// asked there.
     pub fn target(&mut self, span: Span) -> Result<Target, NoMemory>
-        ensures { IfOk result (λ t. IsTarget t (target (bound_next (state_of self.old).uses) (env_of self.old) (after_use (state_of self.old))) span (env_of self.old) self.old self.new) }
+        ensures { IfOk result (λ t. IsTarget t (target (bound_next (state_of self.old).uses) (env_of self.old)
+            (after_use (state_of self.old))) span (env_of self.old) self.old self.new) }
     {
         let bound = self.take_use();
         self.bound_target(bound, span)

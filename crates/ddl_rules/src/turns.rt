@@ -14,7 +14,8 @@ use ddl_types::Ty;
 impl<'a> Elaboration<'a> {
     /// The names of a turn over keys or positions and values of these types. They are in scope then.
     pub fn bind_turn(&mut self, names: &Names, key: Ty, value: Ty) -> Result<Binder, NoMemory>
-        ensures { IfOk result (λ b. IsTurn b names.now (ty_view key) (ty_view value) (env_of self.old) (state_of self.old) self.old self.new) }
+        ensures { IfOk result (λ b. IsTurn b names.now (ty_view key) (ty_view value) (env_of self.old)
+            (state_of self.old) self.old self.new) }
     {
         match &names.second {
             None => {

@@ -46,7 +46,8 @@ fn sized_sint(bits: u128) -> Ty
 impl<'a> Elaboration<'a> {
     // The type that the value of a declaration has.
     fn type_declared(&mut self, number: u32) -> Result<Ty, NoMemory>
-        ensures { IfOk result (λ t. IsWritten t (of_known ((env_of self.old).known number) (state_of self.old)) (env_of self.old) self.old self.new) }
+        ensures { IfOk result (λ t. IsWritten t (of_known ((env_of self.old).known number) (state_of self.old))
+            (env_of self.old) self.old self.new) }
     {
         match self.known.get(number as usize) {
             Some(known) => {
@@ -59,7 +60,8 @@ impl<'a> Elaboration<'a> {
 
     // The type that a name stands for.
     fn type_bound(&mut self, bound: Option<Bound>) -> Result<Ty, NoMemory>
-        ensures { IfOk result (λ t. IsWritten t (of_bound (env_of self.old).known bound (state_of self.old)) (env_of self.old) self.old self.new) }
+        ensures { IfOk result (λ t. IsWritten t (of_bound (env_of self.old).known bound (state_of self.old))
+            (env_of self.old) self.old self.new) }
     {
         match bound {
             Some(Bound::Decl(number)) => self.type_declared(number),
@@ -69,7 +71,9 @@ impl<'a> Elaboration<'a> {
 
     // The type that the next name stands for.
     fn type_named(&mut self) -> Result<Ty, NoMemory>
-        ensures { IfOk result (λ t. IsWritten t (of_bound (env_of self.old).known (bound_next (state_of self.old).uses) (after_use (state_of self.old))) (env_of self.old) self.old self.new) }
+        ensures { IfOk result (λ t. IsWritten t
+            (of_bound (env_of self.old).known (bound_next (state_of self.old).uses) (after_use (state_of self.old)))
+            (env_of self.old) self.old self.new) }
     {
         let bound = self.take_use();
         self.type_bound(bound)
@@ -80,7 +84,8 @@ impl<'a> Elaboration<'a> {
     #[cycle(written)]
     #[tactic(auto, using(ddl_tree::proofs::Layers::layers))]
     pub fn written(&mut self, of: &TypeExpr) -> Result<Ty, NoMemory>
-        ensures { IfOk result (λ t. IsWritten t (written (env_of self.old).known (type_view of.now) (state_of self.old)) (env_of self.old) self.old self.new) }
+        ensures { IfOk result (λ t. IsWritten t (written (env_of self.old).known (type_view of.now) (state_of self.old))
+            (env_of self.old) self.old self.new) }
     {
         match of {
             TypeExpr::Int(_) => Ok(types::int()),

@@ -38,7 +38,8 @@ among_append (m ∷ ms) ns n = ap (λ b. (m == n) || b) (among_append ms ns n) �
 among_reverse : (ns : List ℕ) (n : ℕ) → among (reverse ns) n ≡ among ns n
 among_reverse [] n = refl
 among_reverse (m ∷ ms) n =
-    ap (λ ks. among ks n) (reverse-append (m ∷ []) ms) ∙ among_append (reverse ms) (m ∷ []) n ∙ or_turned (among (reverse ms) n) ((m == n) || false) ∙ ap (λ b. b || among (reverse ms) n) (or_false (m == n)) ∙ ap (λ b. (m == n) || b) (among_reverse ms n)
+    ap (λ ks. among ks n) (reverse-append (m ∷ []) ms) ∙ among_append (reverse ms) (m ∷ []) n ∙ or_turned (among (reverse ms) n) ((m == n) || false)
+    ∙ ap (λ b. b || among (reverse ms) n) (or_false (m == n)) ∙ ap (λ b. (m == n) || b) (among_reverse ms n)
 
 pub among_last : (ns : List ℕ) (n : ℕ) → among (reverse ns) n ≡ list_any (nat_eq n) ns
 among_last ns n = among_reverse ns n ∙ among_any ns n

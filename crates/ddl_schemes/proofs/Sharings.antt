@@ -8,7 +8,8 @@ use Rattle.ddl_judging.specs.Shapes.{fresh}
 use Rattle.ddl_schemes.specs.Renaming.{renaming, seen, shared, shared_all, shared_condition}
 use Rattle.ddl_schemes.specs.SharedParts.{shared_parts}
 
-one_more : (xs : List program.Ty) (x : program.Ty) (k n m : ℕ) → ty_view x ≡ var m → m ≡ n + k → tys_of (map ty_view xs) ≡ fresh k n → tys_of (map ty_view (xs ++ x ∷ [])) ≡ fresh (suc k) n
+one_more : (xs : List program.Ty) (x : program.Ty) (k n m : ℕ) → ty_view x ≡ var m → m ≡ n + k → tys_of (map ty_view xs) ≡ fresh k n
+    → tys_of (map ty_view (xs ++ x ∷ [])) ≡ fresh (suc k) n
 one_more [] x zero n m e f h = ap (λ t. more t none) (e ∙ ap var (omega (arith, f)))
 one_more [] x (suc k) n m e f h = cc
 one_more (y ∷ ys) x zero n m e f h = cc
@@ -18,7 +19,8 @@ one_more (y ∷ ys) x (suc k) n m e f h =
     let tail = one_more ys x k (suc n) m e (omega arith) rest in cc
 
 -- one variable more behind the first ones
-pub fresh_more : (xs ys : List program.Ty) (x : program.Ty) (k : ℕ) → ys ≡ xs ++ x ∷ [] → ty_view x ≡ var k → tys_of (map ty_view xs) ≡ fresh k 0 → tys_of (map ty_view ys) ≡ fresh (k + 1) 0
+pub fresh_more : (xs ys : List program.Ty) (x : program.Ty) (k : ℕ) → ys ≡ xs ++ x ∷ [] → ty_view x ≡ var k → tys_of (map ty_view xs) ≡ fresh k 0
+    → tys_of (map ty_view ys) ≡ fresh (k + 1) 0
 fresh_more xs ys x k e f h =
     let s : suc k ≡ k + 1 = omega arith in
     ap (λ (zs : List program.Ty). tys_of (map ty_view zs)) e ∙ one_more xs x k 0 k f (omega arith) h ∙ ap (λ j. fresh j 0) s

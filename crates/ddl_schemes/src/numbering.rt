@@ -115,7 +115,8 @@ impl Numbering {
         first: u32,
         of: &Ty,
     ) -> Result<Ty, NoMemory>
-        ensures { IfOk result (λ r. ty_view r ≡ shared first (length self.now) (on (on (ty_view of.now) (solution solver.now)) (renaming self.now 0))) }
+        ensures { IfOk result (λ r. ty_view r ≡ shared first (length self.now)
+            (on (on (ty_view of.now) (solution solver.now)) (renaming self.now 0))) }
     {
         let renamed = self.renamed(alloc, solver, of)?;
         let sharing = Sharing {
@@ -134,7 +135,9 @@ impl Numbering {
         first: u32,
         cond: &Cond,
     ) -> Result<Cond, NoMemory>
-        ensures { IfOk result (λ c. cond_view c ≡ shared_condition first (length self.now) (on_condition (renaming self.now 0) (on_condition (solution solver.now) (cond_view cond.now)))) }
+        ensures { IfOk result (λ c. cond_view c
+            ≡ shared_condition first (length self.now)
+            (on_condition (renaming self.now 0) (on_condition (solution solver.now) (cond_view cond.now)))) }
     {
         let seen = Seen {
             numbering: self,

@@ -36,7 +36,8 @@ pub(crate) fn push_all(stack: &mut Vec<Ty>, mut types: Vec<Ty>) -> Result<(), No
 /// Puts two types on a stack, the first one last.
 #[tactic(auto, using(crate::proofs::Stacks::stacks))]
 pub(crate) fn push_two(stack: &mut Vec<Ty>, first: Box<Ty>, second: Box<Ty>) -> Result<(), NoMemory>
-    ensures { OnOk result (waiting stack.new.items ≡ ty_view first.value ∷ ty_view second.value ∷ waiting stack.old.items) }
+    ensures { OnOk result (waiting stack.new.items ≡ ty_view first.value ∷ ty_view second.value
+        ∷ waiting stack.old.items) }
 {
     stack.push(Box::into_inner(second))?;
     stack.push(Box::into_inner(first))?;

@@ -76,7 +76,8 @@ fn share_arguments(
     number: u32,
     ts: &[Ty],
 ) -> Result<Vec<Ty>, NoMemory>
-    ensures { IfOk result (λ v. tys_of (map ty_view v.items) ≡ shared_parts sharing.first sharing.count number (tys_of (map ty_view ts.now))) }
+    ensures { IfOk result (λ v. tys_of (map ty_view v.items)
+        ≡ shared_parts sharing.first sharing.count number (tys_of (map ty_view ts.now))) }
 {
     if number >= sharing.first {
         let arguments = fresh_arguments(alloc, sharing.count)?;
@@ -89,7 +90,8 @@ fn share_arguments(
 #[cycle(share)]
 #[tactic(auto, using(ddl_types::proofs::TyLayers::layers))]
 fn share_all(alloc: Global, sharing: Sharing, ts: &[Ty]) -> Result<Vec<Ty>, NoMemory>
-    ensures { IfOk result (λ v. map ty_view v.items ≡ map (renaming.shared sharing.first sharing.count) (map ty_view ts.now)) }
+    ensures { IfOk result (λ v. map ty_view v.items
+        ≡ map (renaming.shared sharing.first sharing.count) (map ty_view ts.now)) }
 {
     let mut made = Vec::new(alloc);
     for t in ts {

@@ -25,7 +25,8 @@ pub(crate) fn walk(
     shapes: &Shapes,
     roots: &[Ty],
 ) -> Result<Found, NoMemory>
-    ensures { IfOk result (λ found. Walks (shapes_view shapes.now) (solution solver.now) (map (λ t. on t (solution solver.now)) (map ty_view roots.now)) unseen (found_view found)) }
+    ensures { IfOk result (λ found. Walks (shapes_view shapes.now) (solution solver.now)
+        (map (λ t. on t (solution solver.now)) (map ty_view roots.now)) unseen (found_view found)) }
 {
     let mut found = none_found(alloc);
     let mut stack = Vec::new(alloc);
@@ -46,8 +47,11 @@ fn step(
     stack: &mut Vec<Ty>,
     t: Ty,
 ) -> Result<(), NoMemory>
-    ensures found { OnOk result (found_view found.new ≡ seen_after (shapes_view shapes.now) (ty_view t) (found_view found.old)) }
-    ensures stack { OnOk result (waiting stack.new.items ≡ behind (shapes_view shapes.now) (solution solver.now) (found_view found.old) (ty_view t) ++ waiting stack.old.items) }
+    ensures found { OnOk result (found_view found.new
+        ≡ seen_after (shapes_view shapes.now) (ty_view t) (found_view found.old)) }
+    ensures stack { OnOk result (waiting stack.new.items
+        ≡ behind (shapes_view shapes.now) (solution solver.now) (found_view found.old) (ty_view t)
+        ++ waiting stack.old.items) }
 {
     match t {
         Ty::Var(variable) => {
@@ -86,8 +90,11 @@ fn open(
     stack: &mut Vec<Ty>,
     number: u32,
 ) -> Result<(), NoMemory>
-    ensures found { OnOk result (found_view found.new ≡ with_head (shapes_view shapes.now) (place number) (found_view found.old)) }
-    ensures stack { OnOk result (waiting stack.new.items ≡ members (shapes_view shapes.now) (solution solver.now) (found_view found.old) (place number) ++ waiting stack.old.items) }
+    ensures found { OnOk result (found_view found.new
+        ≡ with_head (shapes_view shapes.now) (place number) (found_view found.old)) }
+    ensures stack { OnOk result (waiting stack.new.items
+        ≡ members (shapes_view shapes.now) (solution solver.now) (found_view found.old) (place number)
+        ++ waiting stack.old.items) }
 {
     match own_types(shapes, number) {
         None => Ok(()),
@@ -102,7 +109,9 @@ fn open(
 
 /// The types of the members of a place without variables of its own. Beyond the list are none.
 fn own_types(shapes: &Shapes, number: u32) -> Option<&[Ty]>
-    ensures { MatchOption result ((place_at (shapes_view shapes.now).places number).vars ≢ 0) (λ types. ((place_at (shapes_view shapes.now).places number).vars ≡ 0) × (map ty_view types.now ≡ (place_at (shapes_view shapes.now).places number).types)) }
+    ensures { MatchOption result ((place_at (shapes_view shapes.now).places number).vars ≢ 0) (λ types.
+        ((place_at (shapes_view shapes.now).places number).vars ≡ 0)
+        × (map ty_view types.now ≡ (place_at (shapes_view shapes.now).places number).types)) }
 {
     match shapes.places.get(number as usize) {
         None => Some(&[]),

@@ -19,7 +19,11 @@ abbrev two_bytes : ex.Expr
 two_bytes = ex.Paren (ex.Block (ex.an_item some_byte (ex.an_item some_byte ex.no_items)) nowhere) None nowhere
 
 -- a block in parentheses, with its braces, on one line
-block_line : show_text (record { imports = record { name = name (codes "A"); span = nowhere } ∷ []; decls = mo.Grammar (name (codes "Main")) [] None two_bytes nowhere ∷ [] })
+block_line : show_text (record {
+  imports = record { name = name (codes "A"); span = nowhere } ∷ [];
+  decls =
+      mo.Grammar (name (codes "Main")) [] None two_bytes nowhere ∷ [];
+})
     ≡ codes "import A" ++ 10 ∷ codes "def Main = ( block { UInt8 ; UInt8 } )" ++ 10 ∷ []
 unfolding spelled spaced
 block_line = refl

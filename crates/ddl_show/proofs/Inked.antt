@@ -27,22 +27,27 @@ inked_line t (u ∷ us) others text i =
     subst (Inked (t ∷ u ∷ us ++ others)) (sym (append_assoc (spelled t) (32 ∷ line (u ∷ us)) text)) (one t 32 (inl refl) (inked_line u us others text i))
 
 inked_decl : (d : mo.Decl) (others : List Tok) (text : List ℕ) → Inked others text → Inked (print_decl d [] ++ others) (line (print_decl d []) ++ text)
-inked_decl (mo.Grammar x ps t e s) others text i = inked_line (k.Word w.Def) (upper x ∷ print_params ps (print_typed t (k.Mark m.Equals ∷ print e []))) others text i
-inked_decl (mo.Value x ps t e s) others text i = inked_line (k.Word w.Def) (lower x ∷ print_params ps (print_typed t (k.Mark m.Equals ∷ print e []))) others text i
+inked_decl (mo.Grammar x ps t e s) others text i = inked_line (k.Word w.Def) (upper x ∷ print_params ps (print_typed t (k.Mark m.Equals ∷ print e []))) others
+    text i
+inked_decl (mo.Value x ps t e s) others text i = inked_line (k.Word w.Def) (lower x ∷ print_params ps (print_typed t (k.Mark m.Equals ∷ print e []))) others
+    text i
 inked_decl (mo.ClassDef x c s) others text i = inked_line (k.Word w.Def) (k.Class x.text ∷ k.Mark m.Equals ∷ print_class c []) others text i
 inked_decl (mo.BitsDef x b s) others text i = inked_line (k.Word w.Bitdata) (upper x ∷ k.Mark m.Equals ∷ print_bits b []) others text i
-inked_decl (mo.BitsUnion x cs s) others text i = inked_line (k.Word w.Bitdata) (upper x ∷ k.Word w.Where ∷ k.Mark m.OpenBrace ∷ print_cons cs (k.Mark m.CloseBrace ∷ [])) others text i
+inked_decl (mo.BitsUnion x cs s) others text i = inked_line (k.Word w.Bitdata)
+    (upper x ∷ k.Word w.Where ∷ k.Mark m.OpenBrace ∷ print_cons cs (k.Mark m.CloseBrace ∷ [])) others text i
 
 inked_decls : (ds : List mo.Decl) → Inked (print_decls ds []) (decl_lines ds)
 inked_decls [] = none
 inked_decls (d ∷ ds) =
     let here = decl_prints d in
-    subst (λ z. Inked z (line (print_decl d []) ++ decl_lines ds)) (sym (here.before [] (print_decls ds []))) (inked_decl d (print_decls ds []) (decl_lines ds) (inked_decls ds))
+    subst (λ z. Inked z (line (print_decl d []) ++ decl_lines ds)) (sym (here.before [] (print_decls ds [])))
+    (inked_decl d (print_decls ds []) (decl_lines ds) (inked_decls ds))
 
 inked_imports : (is : List Import) (others : List Tok) (text : List ℕ) → Inked others text → Inked (print_imports is others) (import_lines is ++ text)
 inked_imports [] others text i = i
 inked_imports (j ∷ is) others text i =
-    subst (Inked (k.Word w.Import ∷ upper j.name ∷ print_imports is others)) (sym (append_assoc (line (k.Word w.Import ∷ upper j.name ∷ [])) (import_lines is) text))
+    subst (Inked (k.Word w.Import ∷ upper j.name ∷ print_imports is others))
+    (sym (append_assoc (line (k.Word w.Import ∷ upper j.name ∷ [])) (import_lines is) text))
     (inked_line (k.Word w.Import) (upper j.name ∷ []) (print_imports is others) (import_lines is ++ text) (inked_imports is others text i))
 
 pub inked_module : (x : mo.Module) → Inked (print_module x) (show_text x)

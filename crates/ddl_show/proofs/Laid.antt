@@ -8,7 +8,8 @@ use Rattle.ddl_lex.specs.declared.stack.Open.TheVariants.{Items, Bracket}
 use Rattle.ddl_lex.specs.declared.roles.Role.{Role}
 use Rattle.ddl_lex.specs.declared.roles.Role.TheVariants.{Opens, Closes, Separates, Stands}
 use Rattle.ddl_lex.specs.declared.roles.Last.{Last}
-use Rattle.ddl_lex.specs.Layout.{Added, role, begins_items, is_brace, rule_one, rule_two, reaches, bracket, list_begins, is_first, before, mark_at, begin_of, last_of, end_all, at_end, lay}
+use Rattle.ddl_lex.specs.Layout.{Added, role, begins_items, is_brace, rule_one, rule_two, reaches, bracket, list_begins, is_first, before, mark_at, begin_of}
+use Rattle.ddl_lex.specs.Layout.{last_of, end_all, at_end, lay}
 use Rattle.ddl_lex.proofs.Decided.{both}
 use Rattle.ddl_show.specs.ReadBack.{kinds}
 use Rattle.ddl_show.proofs.Prints.{opens, braced}
@@ -41,7 +42,8 @@ rules_by begins first column r stack =
     let three = bracket r two.1 in
     (one.0 ++ two.0 ++ three.0, three.1)
 
-rules_add : (begins first : Bool) (column : ℕ) (r : Role) (stack : List Open) → begins ≡ false → OnlyBrackets stack → AddsNothing (rules_by begins first column r stack)
+rules_add : (begins first : Bool) (column : ℕ) (r : Role) (stack : List Open) → begins ≡ false → OnlyBrackets stack
+    → AddsNothing (rules_by begins first column r stack)
 unfolding rules_by
 rules_add true first column r stack e h = absurd (cc)
 rules_add false first column r (Items c ∷ stack) e h = absurd h
@@ -50,7 +52,8 @@ rules_add false false column r [] e h = bracket_adds r [] h
 rules_add false true column r (Bracket ∷ stack) e h = bracket_adds r (Bracket ∷ stack) h
 rules_add false false column r (Bracket ∷ stack) e h = bracket_adds r (Bracket ∷ stack) h
 
-before_adds : (last : Option Last) (token : Token) (stack : List Open) → list_begins last token.kind ≡ false → OnlyBrackets stack → AddsNothing (before last token stack)
+before_adds : (last : Option Last) (token : Token) (stack : List Open) → list_begins last token.kind ≡ false → OnlyBrackets stack
+    → AddsNothing (before last token stack)
 unfolding rules_by
 before_adds last token stack e h = rules_add (list_begins last token.kind) (is_first last token.line) token.col (role token.kind) stack e h
 
@@ -82,7 +85,8 @@ ends_add None stack h f = refl
 ends_add (Some last) stack h f =
     ap (λ z. map (mark_at last.end) (z ++ end_all stack)) (empty_list last.begins_items f) ∙ ap (map (mark_at last.end)) (no_end stack h)
 
-pub laid : (last : Option Last) (stack : List Open) (tokens : List Token) → OnlyBrackets stack → follows last (kinds tokens) ≡ true → braced (kinds tokens) ≡ true → lay last stack tokens ≡ tokens
+pub laid : (last : Option Last) (stack : List Open) (tokens : List Token) → OnlyBrackets stack → follows last (kinds tokens) ≡ true
+    → braced (kinds tokens) ≡ true → lay last stack tokens ≡ tokens
 laid last stack [] h f b = ends_add last stack h f
 laid last stack (token ∷ tokens) h f b =
     let added = before_adds last token stack (no_list_begins last token (kinds tokens) f) h in

@@ -1,5 +1,6 @@
 -- A word or a name with a blank behind it begins with that word or name.
-use Rattle.std.proofs.Common.{◌≡◌, ◌≢◌, ◌⊎◌, ◌<◌, ◌≤◌, ℕ, suc, ◌+◌, ◌||◌, Bool, true, false, List, [], ◌∷◌, ◌++◌, length, take, Option, Some, None, inl, inr, refl, ap, sym, subst, ◌∙◌, arith, length-append, if◌then◌else◌}
+use Rattle.std.proofs.Common.{◌≡◌, ◌≢◌, ◌⊎◌, ◌<◌, ◌≤◌, ℕ, suc, ◌+◌, ◌||◌, Bool, true, false, List, [], ◌∷◌, ◌++◌, length, take, Option, Some, None, inl, inr}
+use Rattle.std.proofs.Common.{refl, ap, sym, subst, ◌∙◌, arith, length-append, if◌then◌else◌}
 use Rattle.std.proofs.lemmas.Bool.Decides.{nat_tests}
 use Rattle.ddl_token.specs.declared.word.Word.{Word}
 use Rattle.ddl_token.specs.declared.word.Word.TheVariants as w
@@ -41,7 +42,8 @@ blank_no_name c (inr e) = rw e refl
 -- a name is not how a comment begins
 no_comment : (text : List ℕ) (found : Option Tok) → begins_name text ≡ true → begins_with 123 45 text ≡ true → found ≡ None
 no_comment [] found h c = absurd (cc)
-no_comment (b ∷ bs) found h c = let z = two_bytes 123 45 b bs c in let no : begins_name (123 ∷ bs) ≡ true = subst (λ x. begins_name (x ∷ bs) ≡ true) z.3 h in absurd (cc)
+no_comment (b ∷ bs) found h c = let z = two_bytes 123 45 b bs c in let no : begins_name (123 ∷ bs) ≡ true = subst (λ x. begins_name (x ∷ bs) ≡ true) z.3 h
+    in absurd (cc)
 
 -- what is named at n bytes, where a byte stands behind them
 abbrev named_so : ℕ → List ℕ → Option Tok × ℕ
@@ -51,7 +53,8 @@ signed : (v : Bool) (o : Option Word) → v ≡ true → (if v then o else None)
 signed true o h = refl
 signed false o h = cc
 
-found_right : (text : List ℕ) (x : Tok) (n m : ℕ) → Fits (Some x) → begins_name text ≡ true → m ≡ run is_name text → m < length text → named_so m text ≡ (Some x, n) → IsRight (Some x) n text
+found_right : (text : List ℕ) (x : Tok) (n m : ℕ) → Fits (Some x) → begins_name text ≡ true → m ≡ run is_name text → m < length text
+    → named_so m text ≡ (Some x, n) → IsRight (Some x) n text
 found_right [] x n m f h e l s = absurd (cc)
 found_right (b ∷ bs) x n m f h e l s =
     let text = b ∷ bs in
@@ -106,7 +109,8 @@ word_by x c rest (inr e) = subst (λ z. WordFound x z rest) (sym e) (word_found_
 pub word_right : (x : Word) (c : ℕ) (rest : List ℕ) → IsBlank c → IsRight (Some (t.Word x)) (length (word_spelling x)) (word_spelling x ++ c ∷ rest)
 word_right x c rest blank =
     let text = word_spelling x ++ c ∷ rest in
-    found_right text (t.Word x) (length (word_spelling x)) (run is_name text) tt ((word_found_so x rest).2 c) refl (within (word_spelling x) c rest blank) (word_by x c rest blank)
+    found_right text (t.Word x) (length (word_spelling x)) (run is_name text) tt ((word_found_so x rest).2 c) refl (within (word_spelling x) c rest blank)
+    (word_by x c rest blank)
 
 -- ---- names
 
@@ -163,7 +167,8 @@ no_word_by bytes (Some x) e h = absurd (h x (word_found bytes x e))
 
 no_word_ends_white : (front : List ℕ) (c : ℕ) → IsBlank c → word_of (front ++ c ∷ []) ≡ None
 no_word_ends_white front c blank =
-    no_word_by (front ++ c ∷ []) (word_of (front ++ c ∷ [])) refl (λ x e. (let f : has_white (word_spelling x) ≡ true = ap has_white e ∙ white_at_end front c blank in let g = no_white_in x in cc))
+    no_word_by (front ++ c ∷ []) (word_of (front ++ c ∷ [])) refl (λ x e.
+    (let f : has_white (word_spelling x) ≡ true = ap has_white e ∙ white_at_end front c blank in let g = no_white_in x in cc))
 
 pub take_front : (front : List ℕ) (back : List ℕ) → take (length front) (front ++ back) ≡ front
 take_front [] back = refl
@@ -173,21 +178,25 @@ take_one_more : (front : List ℕ) (c : ℕ) (rest : List ℕ) → take (length 
 take_one_more [] c rest = refl
 take_one_more (b ∷ bs) c rest = let e : suc (length bs) + 1 ≡ suc (length bs + 1) = omega arith in rw e (ap (λ z. b ∷ z) (take_one_more bs c rest))
 
-name_found : (name : List ℕ) (c : ℕ) (rest : List ℕ) → IsBlank c → IsNoWord name → named_so (length name) (name ++ c ∷ rest) ≡ (Some (word_or_name None name), length name)
+name_found : (name : List ℕ) (c : ℕ) (rest : List ℕ) → IsBlank c → IsNoWord name
+    → named_so (length name) (name ++ c ∷ rest) ≡ (Some (word_or_name None name), length name)
 name_found name c rest blank free =
     ap (λ z. longer_word (word_of z) (length name) (take (length name) (name ++ c ∷ rest))) (take_one_more name c rest)
     ∙ ap (λ o. longer_word o (length name) (take (length name) (name ++ c ∷ rest))) (no_word_ends_white name c blank)
     ∙ ap (λ z. (Some (word_or_name (word_of z) z), length name)) (take_front name (c ∷ rest))
     ∙ ap (λ o. (Some (word_or_name o name), length name)) (no_word_by name (word_of name) refl free)
 
-name_right : (name : List ℕ) (x : Tok) (c : ℕ) (rest : List ℕ) → Fits (Some x) → IsBlank c → IsNoWord name → AllPass is_name name → begins_name (name ++ c ∷ rest) ≡ true → word_or_name None name ≡ x →
+name_right : (name : List ℕ) (x : Tok) (c : ℕ) (rest : List ℕ) → Fits (Some x) → IsBlank c → IsNoWord name → AllPass is_name name
+    → begins_name (name ++ c ∷ rest) ≡ true → word_or_name None name ≡ x →
     IsRight (Some x) (length name) (name ++ c ∷ rest)
 name_right name x c rest f blank free all begins is =
     let len = run_is is_name name c rest all (blank_no_name c blank) in
     let small = subst (λ z. z < length (name ++ c ∷ rest)) len (within name c rest blank) in
-    found_right (name ++ c ∷ rest) x (length name) (length name) f begins (sym len) small (name_found name c rest blank free ∙ ap (λ z. (Some z, length name)) is)
+    found_right (name ++ c ∷ rest) x (length name) (length name) f begins (sym len) small (name_found name c rest blank free
+    ∙ ap (λ z. (Some z, length name)) is)
 
-pub upper_right : (name : List ℕ) (c : ℕ) (rest : List ℕ) → IsBlank c → IsName is_capital name → IsNoWord name → IsRight (Some (t.Upper name)) (length name) (name ++ c ∷ rest)
+pub upper_right : (name : List ℕ) (c : ℕ) (rest : List ℕ) → IsBlank c → IsName is_capital name → IsNoWord name
+    → IsRight (Some (t.Upper name)) (length name) (name ++ c ∷ rest)
 upper_right [] c rest blank is free = absurd is
 upper_right (b ∷ bs) c rest blank is free =
     name_right (b ∷ bs) (t.Upper (b ∷ bs)) c rest tt blank free (capital_all (b ∷ bs) is) (rw is.0 refl) (rw is.0 refl)
@@ -195,7 +204,8 @@ upper_right (b ∷ bs) c rest blank is free =
 small_not_capital : (b : ℕ) → is_small b ≡ true → is_capital b ≡ false
 small_not_capital b h = grind (arith, nat_tests)
 
-pub lower_right : (name : List ℕ) (c : ℕ) (rest : List ℕ) → IsBlank c → IsName is_small name ⊎ IsHidden name → IsNoWord name → IsRight (Some (t.Lower name)) (length name) (name ++ c ∷ rest)
+pub lower_right : (name : List ℕ) (c : ℕ) (rest : List ℕ) → IsBlank c → IsName is_small name ⊎ IsHidden name → IsNoWord name
+    → IsRight (Some (t.Lower name)) (length name) (name ++ c ∷ rest)
 lower_right [] c rest blank (inl is) free = absurd is
 lower_right [] c rest blank (inr is) free = absurd is
 lower_right (b ∷ bs) c rest blank (inl is) free =
@@ -216,5 +226,8 @@ class_right (a ∷ b ∷ bs) c rest blank is =
     let begins : begins_class (a ∷ name ++ c ∷ rest) ≡ true = rw (is.0, is.1.0) refl in
     let longest = class_longest a (name ++ c ∷ rest) begins in
     let found : IsLongest (Some (t.Class (take (suc (length name)) (a ∷ name ++ c ∷ rest)))) (suc (length name)) (a ∷ name ++ c ∷ rest) =
-    subst (λ z. IsLongest (Some (t.Class (take (suc z) (a ∷ name ++ c ∷ rest)))) (suc z) (a ∷ name ++ c ∷ rest)) n longest in
-    (subst (λ z. IsLongest (Some (t.Class z)) (suc (length name)) (a ∷ name ++ c ∷ rest)) (take_front (a ∷ name) (c ∷ rest)) found, (λ h. (let z = two_bytes 123 45 a (name ++ c ∷ rest) h in let e : a ≡ 36 = is.0 in absurd (omega (arith, z.3, e)))), tt)
+    subst (λ z. IsLongest (Some (t.Class (take (suc z) (a ∷ name ++ c ∷ rest)))) (suc z) (a ∷ name ++ c ∷ rest)) n longest in (
+      subst (λ z. IsLongest (Some (t.Class z)) (suc (length name)) (a ∷ name ++ c ∷ rest)) (take_front (a ∷ name) (c ∷ rest)) found,
+      (λ h. (let z = two_bytes 123 45 a (name ++ c ∷ rest) h in let e : a ≡ 36 = is.0 in absurd (omega (arith, z.3, e)))),
+      tt,
+    )

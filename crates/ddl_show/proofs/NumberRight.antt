@@ -1,5 +1,6 @@
 -- A number with a blank behind it begins with that number.
-use Rattle.std.proofs.Common.{◌≡◌, ◌<◌, ◌≤◌, ℕ, zero, suc, ◌+◌, ◌*◌, ◌/◌, ◌%◌, ◌^◌, ◌==◌, ◌&&◌, Bool, true, false, List, [], ◌∷◌, ◌++◌, length, take, drop, Option, Some, Result, Ok, Err, inl, inr, refl, ap, sym, subst, ◌∙◌, arith, append_assoc, length-append, if◌then◌else◌}
+use Rattle.std.proofs.Common.{◌≡◌, ◌<◌, ◌≤◌, ℕ, zero, suc, ◌+◌, ◌*◌, ◌/◌, ◌%◌, ◌^◌, ◌==◌, ◌&&◌, Bool, true, false, List, [], ◌∷◌, ◌++◌, length, take, drop}
+use Rattle.std.proofs.Common.{Option, Some, Result, Ok, Err, inl, inr, refl, ap, sym, subst, ◌∙◌, arith, append_assoc, length-append, if◌then◌else◌}
 use Rattle.std.specs.Prelude.{nat_lt}
 use Rattle.std.proofs.lemmas.Bool.Decides.{nat_tests}
 use Rattle.std.proofs.lemmas.Bool.{lt-ltb}
@@ -54,7 +55,8 @@ digits_pass base (suc n) value =
     let r = radix base in
     let positive : 0 < r = omega (arith, radix_some base) in
     let one : AllPass (is_digit_of base) (digit (value % r) ∷ []) = (digit_is base (value % r) (mod-lt value positive), tt) in
-    subst (AllPass (is_digit_of base)) (sym (more_digits r n value)) (pass_both (is_digit_of base) (digits r n (value / r)) (digit (value % r) ∷ []) (digits_pass base n (value / r)) one)
+    subst (AllPass (is_digit_of base)) (sym (more_digits r n value))
+    (pass_both (is_digit_of base) (digits r n (value / r)) (digit (value % r) ∷ []) (digits_pass base n (value / r)) one)
 
 low_length : (radix n value : ℕ) → length (low_digits radix n value) ≡ n
 low_length radix zero value = refl
@@ -97,7 +99,8 @@ no_mark : (d e : ℕ) (more : List ℕ) → (e == 120) ≡ false → (e == 98) �
 no_mark d e [] h k = refl
 no_mark d e (f ∷ fs) h k = rw (h, k, and_false (d == 48)) refl
 
-told : (base : Base) (ds : List ℕ) (c : ℕ) (rest : List ℕ) → IsBlank c → AllPass (is_digit_of base) ds → 0 < length ds → base_of (base_spelling base ++ (ds ++ c ∷ rest)) ≡ base
+told : (base : Base) (ds : List ℕ) (c : ℕ) (rest : List ℕ) → IsBlank c → AllPass (is_digit_of base) ds → 0 < length ds
+    → base_of (base_spelling base ++ (ds ++ c ∷ rest)) ≡ base
 told base [] c rest blank h some = absurd (omega (arith, some))
 told Decimal (d ∷ []) c rest blank h some = let z = blank_marks_none c blank in no_mark d c rest z.0 z.1
 told Decimal (d ∷ e ∷ ds) c rest blank h some = let z = decimal_marks_none e h.1.0 in no_mark d e (ds ++ c ∷ rest) z.0 z.1
@@ -135,7 +138,8 @@ fits false x y h = absurd (cc)
 abbrev numbered : ℕ → Base → List ℕ → Found
 numbered at base ds = let n = run (is_digit_of base) ds in number_of at base n (take n ds)
 
-number_is : (base : Base) (ds : List ℕ) (c : ℕ) (rest : List ℕ) → IsBlank c → AllPass (is_digit_of base) ds → 0 < length ds → value_behind (radix base) 0 ds < 2 ^ 128 →
+number_is : (base : Base) (ds : List ℕ) (c : ℕ) (rest : List ℕ) → IsBlank c → AllPass (is_digit_of base) ds → 0 < length ds
+    → value_behind (radix base) 0 ds < 2 ^ 128 →
     number 0 (base_spelling base ++ (ds ++ c ∷ rest)) ≡ Ok (Some (t.Number (value_behind (radix base) 0 ds) base (length ds)), base_mark base + length ds)
 number_is base ds c rest blank h some small =
     let text = base_spelling base ++ (ds ++ c ∷ rest) in
@@ -149,7 +153,8 @@ number_is base ds c rest blank h some small =
     ∙ fits (nat_lt value (2 ^ 128)) good wide (lt-ltb value (2 ^ 128) small)
 
 -- a number begins with a decimal digit
-right_of : (text : List ℕ) (found : Option Tok) (k : ℕ) (b : ℕ) (bs : List ℕ) → text ≡ b ∷ bs → is_decimal b ≡ true → number 0 text ≡ Ok (found, k) → IsRight found k text
+right_of : (text : List ℕ) (found : Option Tok) (k : ℕ) (b : ℕ) (bs : List ℕ) → text ≡ b ∷ bs → is_decimal b ≡ true → number 0 text ≡ Ok (found, k)
+    → IsRight found k text
 right_of text found k b bs e h n =
     let less : b < 123 = grind (arith, nat_tests) in
     let there = subst (λ z. number 0 z ≡ Ok (found, k)) e n in

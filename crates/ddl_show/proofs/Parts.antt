@@ -10,7 +10,8 @@ use Rattle.ddl_tree.specs.declared.expr.Binding.{Binding}
 use Rattle.ddl_tree.specs.declared.expr.Item.{Item}
 use Rattle.ddl_tree.specs.declared.expr.Alt.{Alt}
 use Rattle.ddl_tree.specs.View.{view, exprs_view, binding_view, bindings_view, item_view, items_view, alt_view, alts_view}
-use Rattle.ddl_tree.specs.Print.{lower, print, print_args, print_exprs, print_more_exprs, print_bindings, print_more_bindings, print_item, print_items, print_more_items, print_pattern, print_alts, print_more_alts}
+use Rattle.ddl_tree.specs.Print.{lower, print, print_args, print_exprs, print_more_exprs, print_bindings, print_more_bindings, print_item, print_items}
+use Rattle.ddl_tree.specs.Print.{print_more_items, print_pattern, print_alts, print_more_alts}
 use Rattle.ddl_show.proofs.Elements.{none, next}
 
 -- ---- arguments
@@ -44,11 +45,13 @@ pub empty_bindings : (xs : List Binding) (by : Mark) (r : List Tok) → length x
 empty_bindings xs by r e = ap (λ zs. print_bindings (bindings_view zs) by r) (none xs e)
 
 pub first_binding : (xs : List Binding) (x : Binding) (ys : List Binding) (by : Mark) (r : List Tok) → xs ≡ x ∷ ys →
-    print_bindings (bindings_view xs) by r ≡ lower (binding_view x).name ∷ k.Mark m.Equals ∷ print (binding_view x).value (print_more_bindings (bindings_view ys) by r)
+    print_bindings (bindings_view xs) by r ≡ lower (binding_view x).name ∷ k.Mark m.Equals
+    ∷ print (binding_view x).value (print_more_bindings (bindings_view ys) by r)
 first_binding xs x ys by r e = ap (λ zs. print_bindings (bindings_view zs) by r) e
 
 pub next_binding : (xs : List Binding) (i : ℕ) (x : Binding) (by : Mark) (r : List Tok) → x ≡ get_or xs i x → i < length xs →
-    print_more_bindings (bindings_view (drop i xs)) by r ≡ k.Mark by ∷ lower (binding_view x).name ∷ k.Mark m.Equals ∷ print (binding_view x).value (print_more_bindings (bindings_view (drop (i + 1) xs)) by r)
+    print_more_bindings (bindings_view (drop i xs)) by r ≡ k.Mark by ∷ lower (binding_view x).name ∷ k.Mark m.Equals
+    ∷ print (binding_view x).value (print_more_bindings (bindings_view (drop (i + 1) xs)) by r)
 next_binding xs i x by r e h = ap (λ ys. print_more_bindings (bindings_view ys) by r) (next xs i x e h)
 
 pub no_binding : (xs : List Binding) (i : ℕ) (by : Mark) (r : List Tok) → length xs ≤ i → print_more_bindings (bindings_view (drop i xs)) by r ≡ r
@@ -80,10 +83,30 @@ pub first_alt : (xs : List Alt) (x : Alt) (ys : List Alt) (r : List Tok) → xs 
 first_alt xs x ys r e = ap (λ zs. print_alts (alts_view zs) r) e
 
 pub next_alt : (xs : List Alt) (i : ℕ) (x : Alt) (r : List Tok) → x ≡ get_or xs i x → i < length xs →
-    print_more_alts (alts_view (drop i xs)) r ≡ k.Mark m.Semicolon ∷ print_pattern (alt_view x).pattern (k.Mark m.Arrow ∷ print (alt_view x).body (print_more_alts (alts_view (drop (i + 1) xs)) r))
+    print_more_alts (alts_view (drop i xs)) r ≡ k.Mark m.Semicolon
+    ∷ print_pattern (alt_view x).pattern (k.Mark m.Arrow ∷ print (alt_view x).body (print_more_alts (alts_view (drop (i + 1) xs)) r))
 next_alt xs i x r e h = ap (λ ys. print_more_alts (alts_view ys) r) (next xs i x e h)
 
 pub no_alt : (xs : List Alt) (i : ℕ) (r : List Tok) → length xs ≤ i → print_more_alts (alts_view (drop i xs)) r ≡ r
 no_alt xs i r h = ap (λ ys. print_more_alts (alts_view ys) r) (drop_all i xs h)
 
-pub ruleset parts = (next_arg, no_arg, empty_exprs, first_expr, next_expr, no_expr, empty_bindings, first_binding, next_binding, no_binding, empty_items, first_item, next_item, no_item, empty_alts, first_alt, next_alt, no_alt)
+pub ruleset parts = (
+  next_arg,
+  no_arg,
+  empty_exprs,
+  first_expr,
+  next_expr,
+  no_expr,
+  empty_bindings,
+  first_binding,
+  next_binding,
+  no_binding,
+  empty_items,
+  first_item,
+  next_item,
+  no_item,
+  empty_alts,
+  first_alt,
+  next_alt,
+  no_alt,
+)

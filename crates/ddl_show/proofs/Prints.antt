@@ -41,4 +41,8 @@ list_keeps t ts false e h = rw (e, h) refl
 
 -- a word that begins a list, and the brace behind it
 pub list : {f : List Tok → List Tok} (t : Tok) → Prints f → Prints (λ r. t ∷ k.Mark m.OpenBrace ∷ f r)
-list {f = f} t p = record { before = λ r s. ap (λ z. t ∷ k.Mark m.OpenBrace ∷ z) (p.before r s); keeps = λ r h. list_keeps t (f r) (begins_items t) refl (p.keeps r h) }
+list {f = f} t p = record {
+  before = λ r s. ap (λ z. t ∷ k.Mark m.OpenBrace ∷ z) (p.before r s);
+  keeps =
+      λ r h. list_keeps t (f r) (begins_items t) refl (p.keeps r h);
+}

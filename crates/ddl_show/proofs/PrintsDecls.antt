@@ -7,7 +7,8 @@ use Rattle.ddl_token.specs.declared.mark.Mark.{Mark}
 use Rattle.ddl_token.specs.declared.mark.Mark.TheVariants as m
 use Rattle.ddl_tree.specs.ModuleTree as mo
 use Rattle.ddl_tree.specs.Print.{upper, lower, number}
-use Rattle.ddl_tree.specs.PrintModule.{print_param, print_params, print_part, print_parts, print_more_parts, print_bits, print_con, print_cons, print_more_cons, print_decl}
+use Rattle.ddl_tree.specs.PrintModule.{print_param, print_params, print_part, print_parts, print_more_parts, print_bits, print_con, print_cons, print_more_cons}
+use Rattle.ddl_tree.specs.PrintModule.{print_decl}
 use Rattle.ddl_show.proofs.Prints.{Prints, nothing, both, token, list}
 use Rattle.ddl_show.proofs.PrintsForms.{type_prints, typed_prints, class_prints, prints}
 
@@ -54,8 +55,10 @@ cons_print [] = nothing
 cons_print (c ∷ cs) = both (con_prints c) (more_cons_print cs)
 
 pub decl_prints : (d : mo.Decl) → Prints (print_decl d)
-decl_prints (mo.Grammar x ps t e s) = token (k.Word w.Def) refl (token (upper x) refl (both (params_print ps) (both (typed_prints t) (mark m.Equals (prints e)))))
+decl_prints (mo.Grammar x ps t e s) = token (k.Word w.Def) refl
+    (token (upper x) refl (both (params_print ps) (both (typed_prints t) (mark m.Equals (prints e)))))
 decl_prints (mo.Value x ps t e s) = token (k.Word w.Def) refl (token (lower x) refl (both (params_print ps) (both (typed_prints t) (mark m.Equals (prints e)))))
 decl_prints (mo.ClassDef x c s) = token (k.Word w.Def) refl (token (k.Class x.text) refl (mark m.Equals (class_prints c)))
 decl_prints (mo.BitsDef x b s) = token (k.Word w.Bitdata) refl (token (upper x) refl (mark m.Equals (bits_print b)))
-decl_prints (mo.BitsUnion x cs s) = token (k.Word w.Bitdata) refl (token (upper x) refl (list (k.Word w.Where) (both (cons_print cs) (mark m.CloseBrace nothing))))
+decl_prints (mo.BitsUnion x cs s) = token (k.Word w.Bitdata) refl
+    (token (upper x) refl (list (k.Word w.Where) (both (cons_print cs) (mark m.CloseBrace nothing))))

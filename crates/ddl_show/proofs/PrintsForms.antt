@@ -27,7 +27,10 @@ use Rattle.ddl_tree.specs.declared.pattern.Shape.TheVariants.{IsTag, IsTrue, IsF
 use Rattle.ddl_tree.specs.TypeTree as ty
 use Rattle.ddl_tree.specs.ClassTree as cls
 use Rattle.ddl_tree.specs.ExprTree as ex
-use Rattle.ddl_tree.specs.Print.{upper, lower, number, infix_token, prefix_token, cast_token, many_token, optional_token, choice_token, shape_token, binder_token, byte_token, print_type, print_typed, print_class, print_content, print_pattern, print_second, print_names, print, print_bound, print_alternatives, print_item, print_args, print_exprs, print_more_exprs, print_bindings, print_more_bindings, print_items, print_more_items, print_alts, print_more_alts}
+use Rattle.ddl_tree.specs.Print.{upper, lower, number, infix_token, prefix_token, cast_token, many_token, optional_token, choice_token, shape_token}
+use Rattle.ddl_tree.specs.Print.{binder_token, byte_token, print_type, print_typed, print_class, print_content, print_pattern, print_second, print_names, print}
+use Rattle.ddl_tree.specs.Print.{print_bound, print_alternatives, print_item, print_args, print_exprs, print_more_exprs, print_bindings, print_more_bindings}
+use Rattle.ddl_tree.specs.Print.{print_items, print_more_items, print_alts, print_more_alts}
 use Rattle.ddl_lex.specs.Layout.{begins_items}
 use Rattle.ddl_show.proofs.Prints.{Prints, nothing, both, token, list}
 
@@ -156,7 +159,8 @@ mutual
   prints (ex.Pure a s) = mark m.Caret (prints a)
   prints (ex.If c a b s) = token (k.Word w.If) refl (both (prints c) (token (k.Word w.Then) refl (both (prints a) (token (k.Word w.Else) refl (prints b)))))
   prints (ex.For x i ns l b s) =
-      token (k.Word w.For) refl (mark m.OpenParen (name x (mark m.Equals (both (prints i) (mark m.Semicolon (both (names_print ns) (both (prints l) (mark m.CloseParen (prints b)))))))))
+      token (k.Word w.For) refl (mark m.OpenParen (name x (mark m.Equals
+      (both (prints i) (mark m.Semicolon (both (names_print ns) (both (prints l) (mark m.CloseParen (prints b)))))))))
   prints (ex.Map ns l b s) = token (k.Word w.Map) refl (mark m.OpenParen (both (names_print ns) (both (prints l) (mark m.CloseParen (prints b)))))
   prints (ex.Is a p s) = both (prints a) (token (k.Word w.Is) refl (token (shape_token p) (shape_stands p) nothing))
   prints (ex.Prefix o a s) = token (prefix_token o) (prefix_stands o) (prints a)

@@ -1,5 +1,6 @@
 -- A literal with a blank behind it begins with that literal.
-use Rattle.std.proofs.Common.{◌≡◌, ◌⊎◌, ◌<◌, ◌≤◌, ℕ, suc, ◌+◌, ◌*◌, ◌/◌, ◌%◌, ◌==◌, ◌||◌, Bool, true, false, List, [], ◌∷◌, ◌++◌, length, Option, Some, None, Ok, inl, inr, refl, ap, sym, subst, ◌∙◌, arith, append_assoc, length-append, if◌then◌else◌}
+use Rattle.std.proofs.Common.{◌≡◌, ◌⊎◌, ◌<◌, ◌≤◌, ℕ, suc, ◌+◌, ◌*◌, ◌/◌, ◌%◌, ◌==◌, ◌||◌, Bool, true, false, List, [], ◌∷◌, ◌++◌, length, Option, Some, None}
+use Rattle.std.proofs.Common.{Ok, inl, inr, refl, ap, sym, subst, ◌∙◌, arith, append_assoc, length-append, if◌then◌else◌}
 use Rattle.std.proofs.lemmas.Bool.Decides.{nat_tests}
 use Rattle.std.proofs.lemmas.List.{append-nil}
 use Rattle.std.proofs.Math.Seq.{drop-append_seam, get_or-append_seam}
@@ -90,7 +91,8 @@ unfolding IsQuote
 closes q s a rest (inl e) = rw e refl
 closes q s a rest (inr e) = rw e refl
 
-literal_written : (q s a : ℕ) (bytes rest : List ℕ) → IsQuote q → AreBytes bytes → literal q s a 0 (all_written q bytes ++ q ∷ rest) ≡ Ok (bytes, length (all_written q bytes) + 1)
+literal_written : (q s a : ℕ) (bytes rest : List ℕ) → IsQuote q → AreBytes bytes
+    → literal q s a 0 (all_written q bytes ++ q ∷ rest) ≡ Ok (bytes, length (all_written q bytes) + 1)
 literal_written q s a [] rest quote h = closes q s a rest quote
 literal_written q s a (b ∷ bs) rest quote h =
     let front = written q b in
@@ -110,18 +112,21 @@ literal_written q s a (b ∷ bs) rest quote h =
 pub no_comment_at : (b : ℕ) (bs : List ℕ) (found : Option Tok) → b < 123 → begins_with 123 45 (b ∷ bs) ≡ true → found ≡ None
 no_comment_at b bs found less h = let z = two_bytes 123 45 b bs h in absurd (omega (arith, z.3))
 
-pub text_right : (bytes : List ℕ) (c : ℕ) (rest : List ℕ) → AreBytes bytes → IsRight (Some (t.Text bytes)) (length (quoted 34 bytes)) (quoted 34 bytes ++ c ∷ rest)
+pub text_right : (bytes : List ℕ) (c : ℕ) (rest : List ℕ) → AreBytes bytes
+    → IsRight (Some (t.Text bytes)) (length (quoted 34 bytes)) (quoted 34 bytes ++ c ∷ rest)
 unfolding IsQuote
 text_right bytes c rest h =
     let inside = all_written 34 bytes in
     let text = 34 ∷ inside ++ 34 ∷ c ∷ rest in
     let n : length (inside ++ 34 ∷ []) ≡ length inside + 1 = length-append inside (34 ∷ []) in
     let longest = text_longest 0 1 34 (inside ++ 34 ∷ c ∷ rest) bytes (length inside + 1) refl (literal_written 34 0 1 bytes (c ∷ rest) (inl refl) h) in
-    let right : IsRight (Some (t.Text bytes)) (suc (length inside + 1)) text = (longest, no_comment_at 34 (inside ++ 34 ∷ c ∷ rest) (Some (t.Text bytes)) (omega arith), tt) in
+    let right : IsRight (Some (t.Text bytes)) (suc (length inside + 1)) text =
+    (longest, no_comment_at 34 (inside ++ 34 ∷ c ∷ rest) (Some (t.Text bytes)) (omega arith), tt) in
     let here : IsRight (Some (t.Text bytes)) (length (quoted 34 bytes)) text = subst (λ z. IsRight (Some (t.Text bytes)) (suc z) text) (sym n) right in
     subst (λ z. IsRight (Some (t.Text bytes)) (length (quoted 34 bytes)) (34 ∷ z)) (sym (append_assoc inside (34 ∷ []) (c ∷ rest))) here
 
-character_is : (b : ℕ) (front back : List ℕ) → element 39 (front ++ 39 ∷ back) ≡ Means b (length front) → character 0 (front ++ 39 ∷ back) ≡ Ok (Some (t.Char b), length front + 2)
+character_is : (b : ℕ) (front back : List ℕ) → element 39 (front ++ 39 ∷ back) ≡ Means b (length front)
+    → character 0 (front ++ 39 ∷ back) ≡ Ok (Some (t.Char b), length front + 2)
 character_is b front back e =
     let quote = get_or-append_seam front 39 back 0 in
     ap (character_of 0 (front ++ 39 ∷ back)) e ∙ (rw quote refl)

@@ -1,5 +1,6 @@
 -- Each token that a text has is of a form of the language.
-use Rattle.std.proofs.Common.{◌≡◌, ◌⊎◌, ◌<◌, ◌≤◌, ◌^◌, ℕ, zero, suc, ◌+◌, ◌*◌, ◌==◌, ◌&&◌, ◌||◌, Bool, true, false, List, [], ◌∷◌, ◌++◌, length, take, drop, Some, None, Result, Ok, Err, refl, ap, sym, subst, ◌∙◌, arith, if◌then◌else◌}
+use Rattle.std.proofs.Common.{◌≡◌, ◌⊎◌, ◌<◌, ◌≤◌, ◌^◌, ℕ, zero, suc, ◌+◌, ◌*◌, ◌==◌, ◌&&◌, ◌||◌, Bool, true, false, List, [], ◌∷◌, ◌++◌, length, take, drop}
+use Rattle.std.proofs.Common.{Some, None, Result, Ok, Err, refl, ap, sym, subst, ◌∙◌, arith, if◌then◌else◌}
 use Rattle.std.proofs.lemmas.Bool.Decides.{nat_tests}
 use Rattle.std.proofs.lemmas.List.{map-append}
 use Rattle.std.proofs.Math.Nat.{pow-suc, pow-zero, mul-le-mul_right, mul_assoc, mul_comm}
@@ -122,10 +123,12 @@ value_below : (base : Base) (v : ℕ) (ds : List ℕ) → AllPass (is_digit_of b
 value_below base v [] h = rw (pow-zero (radix base)) (omega arith)
 value_below base v (d ∷ ds) h =
     let r = radix base in
-    rw (pow-suc r (length ds)) (next_below v r (r ^ length ds) (digit_value d) (value_behind r (v * r + digit_value d) ds) (digit_small base d h.0) (value_below base (v * r + digit_value d) ds h.1))
+    rw (pow-suc r (length ds)) (next_below v r (r ^ length ds) (digit_value d) (value_behind r (v * r + digit_value d) ds) (digit_small base d h.0)
+    (value_below base (v * r + digit_value d) ds h.1))
 
 number_below : (base : Base) (ds : List ℕ) → AllPass (is_digit_of base) ds → value_behind (radix base) 0 ds < radix base ^ length ds
-number_below base ds h = let one : (0 + 1) * radix base ^ length ds ≡ radix base ^ length ds = grind arith in subst (λ z. value_behind (radix base) 0 ds < z) one (value_below base 0 ds h)
+number_below base ds h = let one : (0 + 1) * radix base ^ length ds ≡ radix base ^ length ds =
+    grind arith in subst (λ z. value_behind (radix base) 0 ds < z) one (value_below base 0 ds h)
 
 -- ---- tokens
 

@@ -82,7 +82,8 @@ pub(crate) fn put_choice(
     bias: Bias,
     alternatives: &Alternatives,
 ) -> Result<(), NoMemory>
-    ensures { OnOk result (Writes text.old.items (print (ex.Choice bias (alternatives_view alternatives.now) nowhere)) text.new.items) }
+    ensures { OnOk result (Writes text.old.items (print (ex.Choice bias (alternatives_view alternatives.now) nowhere))
+        text.new.items) }
 {
     put_word(text, choice_word(bias))?;
     put_mark(text, Mark::OpenBrace)?;
@@ -94,7 +95,8 @@ pub(crate) fn put_choice(
 #[cycle(exprs)]
 #[tactic(auto, using(ddl_tree::proofs::Layers::layers))]
 fn put_alternatives(text: &mut Vec<u8>, alternatives: &Alternatives) -> Result<(), NoMemory>
-    ensures { OnOk result (Writes text.old.items (print_alternatives (alternatives_view alternatives.now)) text.new.items) }
+    ensures { OnOk result (Writes text.old.items (print_alternatives (alternatives_view alternatives.now))
+        text.new.items) }
 {
     match alternatives {
         Alternatives::WithTags(bindings) => put_bindings(text, bindings, Mark::Semicolon),
@@ -106,7 +108,8 @@ fn put_alternatives(text: &mut Vec<u8>, alternatives: &Alternatives) -> Result<(
 #[cycle(exprs)]
 #[tactic(auto, using(ddl_tree::proofs::Layers::layers))]
 pub(crate) fn put_subject(text: &mut Vec<u8>, subject: &Expr) -> Result<(), NoMemory>
-    ensures { OnOk result (Writes text.old.items (λ rest. k.Word w.Case ∷ print (view subject.now) (k.Word w.Of ∷ rest)) text.new.items) }
+    ensures { OnOk result (Writes text.old.items (λ rest. k.Word w.Case ∷ print (view subject.now) (k.Word w.Of ∷ rest))
+        text.new.items) }
 {
     put_word(text, Word::Case)?;
     put_expr(text, subject)?;
@@ -117,7 +120,8 @@ pub(crate) fn put_subject(text: &mut Vec<u8>, subject: &Expr) -> Result<(), NoMe
 #[cycle(exprs)]
 #[tactic(auto, using(ddl_tree::proofs::Layers::layers))]
 pub(crate) fn put_branches(text: &mut Vec<u8>, alts: &[Alt]) -> Result<(), NoMemory>
-    ensures { OnOk result (Writes text.old.items (λ rest. k.Mark m.OpenBrace ∷ print_alts (alts_view alts.now) (k.Mark m.CloseBrace ∷ rest)) text.new.items) }
+    ensures { OnOk result (Writes text.old.items (λ rest.
+        k.Mark m.OpenBrace ∷ print_alts (alts_view alts.now) (k.Mark m.CloseBrace ∷ rest)) text.new.items) }
 {
     put_mark(text, Mark::OpenBrace)?;
     put_alts(text, alts)?;

@@ -6,7 +6,8 @@ ghost use Rattle.ddl_tree.specs.Spans.{nowhere};
 ghost use Rattle.ddl_tree.specs.View.{view, type_view, typed_view};
 ghost use Rattle.ddl_tree.specs.ViewModule.{param_view, part_view, bits_view, con_view, decl_view};
 ghost use Rattle.ddl_tree.specs.Print.{print, print_typed};
-ghost use Rattle.ddl_tree.specs.PrintModule.{print_param, print_params, print_part, print_parts, print_bits, print_con, print_cons, print_decl};
+ghost use Rattle.ddl_tree.specs.PrintModule.{print_param, print_params, print_part, print_parts, print_bits, print_con};
+ghost use Rattle.ddl_tree.specs.PrintModule.{print_cons, print_decl};
 ghost use Rattle.ddl_show.specs.Writes.{Begins, Writes};
 
 use crate::classes::put_class;
@@ -19,8 +20,10 @@ use ddl_tree::{Bits, Con, Decl, Expr, Name, Param, Part, TypeExpr};
 
 /// Writes a name with its type, in parentheses.
 fn put_typed_name(text: &mut Vec<u8>, name: &Name, of: &TypeExpr) -> Result<(), NoMemory>
-    ensures upper { OnOk result (Writes text.old.items (print_param (tree.TypedUpper name.now (type_view of.now) nowhere)) text.new.items) }
-    ensures lower { OnOk result (Writes text.old.items (print_param (tree.TypedLower name.now (type_view of.now) nowhere)) text.new.items) }
+    ensures upper { OnOk result (Writes text.old.items
+        (print_param (tree.TypedUpper name.now (type_view of.now) nowhere)) text.new.items) }
+    ensures lower { OnOk result (Writes text.old.items
+        (print_param (tree.TypedLower name.now (type_view of.now) nowhere)) text.new.items) }
 {
     put_mark(text, Mark::OpenParen)?;
     put_name(text, name.text.get())?;

@@ -77,7 +77,8 @@ pub(crate) fn put_digits(
     count: u32,
     value: u128,
 ) -> Result<(), NoMemory>
-    ensures { OnOk result (text.new.items ≡ text.old.items ++ (32 ∷ base_spelling base ++ numerals.digits (numbers.radix base) count value)) }
+    ensures { OnOk result (text.new.items ≡ text.old.items
+        ++ (32 ∷ base_spelling base ++ numerals.digits (numbers.radix base) count value)) }
 {
     let digits = digits_of(*text.allocator(), base, count, value)?;
     text.push(b' ')?;

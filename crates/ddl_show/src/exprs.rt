@@ -163,7 +163,8 @@ fn put_is(text: &mut Vec<u8>, value: &Expr, shape: &Shape) -> Result<(), NoMemor
 #[cycle(exprs)]
 #[tactic(auto, using(ddl_tree::proofs::Layers::layers))]
 fn put_cast(text: &mut Vec<u8>, op: CastOp, value: &Expr, target: &TypeExpr) -> Result<(), NoMemory>
-    ensures { OnOk result (Writes text.old.items (print (ex.Cast op (view value.now) (type_view target.now) nowhere)) text.new.items) }
+    ensures { OnOk result (Writes text.old.items (print (ex.Cast op (view value.now) (type_view target.now) nowhere))
+        text.new.items) }
 {
     put_expr(text, value)?;
     put_word(text, cast_word(op))?;
@@ -194,7 +195,8 @@ fn put_set(text: &mut Vec<u8>, class: &Cls) -> Result<(), NoMemory>
 #[cycle(exprs)]
 #[tactic(auto, using(ddl_tree::proofs::Layers::layers))]
 fn put_paren(text: &mut Vec<u8>, inner: &Expr, typed: &Option<TypeExpr>) -> Result<(), NoMemory>
-    ensures { OnOk result (Writes text.old.items (print (ex.Paren (view inner.now) (typed_view typed.now) nowhere)) text.new.items) }
+    ensures { OnOk result (Writes text.old.items (print (ex.Paren (view inner.now) (typed_view typed.now) nowhere))
+        text.new.items) }
 {
     put_mark(text, Mark::OpenParen)?;
     put_expr(text, inner)?;

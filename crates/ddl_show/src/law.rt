@@ -10,7 +10,9 @@ ghost use Rattle.ddl_show.specs.ReadBack.{AreBytes, AreTokenForms, ReadsBack, ki
 /// The contract is the law, of all modules whose tokens are of the forms of the language and no more than a text may
 /// have. The function does nothing.
 pub fn show_law()
-    ensures reads_back { (x : tree.Module) → AreTokenForms (print_module x) → length (print_module x) ≤ 2 ^ 20 → ReadsBack x }
+    ensures reads_back { (x : tree.Module) → AreTokenForms (print_module x) → length (print_module x) ≤ 2 ^ 20
+        → ReadsBack x }
     // The forms are those of the tokens that texts have.
-    ensures forms { (text : List ℕ) (tokens : List Token) (at : ℕ) → AreBytes text → Cut text tokens at → AreTokenForms (kinds tokens) }
+    ensures forms { (text : List ℕ) (tokens : List Token) (at : ℕ) → AreBytes text → Cut text tokens at
+        → AreTokenForms (kinds tokens) }
 {}

@@ -58,7 +58,8 @@ pub(crate) fn put_exprs(text: &mut Vec<u8>, exprs: &[Expr], by: Mark) -> Result<
 #[cycle(exprs)]
 #[tactic(auto, using(ddl_tree::proofs::Layers::layers))]
 pub(crate) fn put_record(text: &mut Vec<u8>, fields: &[Binding]) -> Result<(), NoMemory>
-    ensures { OnOk result (Writes text.old.items (print (ex.RecordOf (bindings_view fields.now) nowhere)) text.new.items) }
+    ensures { OnOk result (Writes text.old.items (print (ex.RecordOf (bindings_view fields.now) nowhere))
+        text.new.items) }
 {
     put_mark(text, Mark::OpenBrace)?;
     put_bindings(text, fields, Mark::Comma)?;

@@ -19,7 +19,9 @@ use ddl_tree::{Bound, Expr, Name, Names};
 #[cycle(exprs)]
 #[tactic(auto, using(ddl_tree::proofs::Layers::layers))]
 pub(crate) fn put_state(text: &mut Vec<u8>, state: &Name, start: &Expr) -> Result<(), NoMemory>
-    ensures { OnOk result (Writes text.old.items (λ rest. k.Word w.For ∷ k.Mark m.OpenParen ∷ lower state.now ∷ k.Mark m.Equals ∷ print (view start.now) (k.Mark m.Semicolon ∷ rest)) text.new.items) }
+    ensures { OnOk result (Writes text.old.items (λ rest.
+        k.Word w.For ∷ k.Mark m.OpenParen ∷ lower state.now ∷ k.Mark m.Equals
+        ∷ print (view start.now) (k.Mark m.Semicolon ∷ rest)) text.new.items) }
 {
     put_word(text, Word::For)?;
     put_mark(text, Mark::OpenParen)?;
@@ -33,7 +35,9 @@ pub(crate) fn put_state(text: &mut Vec<u8>, state: &Name, start: &Expr) -> Resul
 #[cycle(exprs)]
 #[tactic(auto, using(ddl_tree::proofs::Layers::layers))]
 pub(crate) fn put_map_list(text: &mut Vec<u8>, names: &Names, list: &Expr) -> Result<(), NoMemory>
-    ensures { OnOk result (Writes text.old.items (λ rest. k.Word w.Map ∷ k.Mark m.OpenParen ∷ print_names names.now (print (view list.now) (k.Mark m.CloseParen ∷ rest))) text.new.items) }
+    ensures { OnOk result (Writes text.old.items (λ rest.
+        k.Word w.Map ∷ k.Mark m.OpenParen ∷ print_names names.now (print (view list.now) (k.Mark m.CloseParen ∷ rest)))
+        text.new.items) }
 {
     put_word(text, Word::Map)?;
     put_mark(text, Mark::OpenParen)?;

@@ -1,5 +1,6 @@
 ghost use Rattle.std.specs.Prelude.{◌≡◌, ◌∷◌, OnOk};
-ghost use Rattle.ddl_tree.specs.Print.{binder_token, shape_token, print_content, print_names, print_pattern, print_second};
+ghost use Rattle.ddl_tree.specs.Print.{binder_token, shape_token, print_content, print_names, print_pattern};
+ghost use Rattle.ddl_tree.specs.Print.{print_second};
 ghost use Rattle.ddl_show.specs.Writes.{Writes};
 
 use crate::tokens::{put_char, put_mark, put_name, put_number, put_word};

@@ -16,7 +16,8 @@ or_none None = refl
 or_none (Some x) = refl
 
 -- a plain item that is `^` of a form
-pub alone_pure : (e a : ex.Expr) (s : Span) (scope : Scope) → bare e ≡ ex.Pure a s → option_or (pure_at (bare e) scope) (grammar e scope) ≡ pure_of s (local_at (bare a) scope)
+pub alone_pure : (e a : ex.Expr) (s : Span) (scope : Scope) → bare e ≡ ex.Pure a s
+    → option_or (pure_at (bare e) scope) (grammar e scope) ≡ pure_of s (local_at (bare a) scope)
 alone_pure e a s scope h =
     ap (λ g. option_or (pure_at (bare e) scope) g) (sym (grammar_bare e scope) ∙ ap (λ d. grammar d scope) h)
     ∙ or_none (pure_at (bare e) scope)

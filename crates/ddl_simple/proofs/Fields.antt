@@ -1,5 +1,6 @@
 -- Which names of fields were seen.
-use Rattle.std.proofs.Common.{◌≡◌, ℕ, ◌+◌, ◌<◌, ◌≤◌, List, [], ◌∷◌, ◌++◌, length, drop, get_or, Bool, true, false, not, ◌&&◌, ◌||◌, Option, Some, None, refl, ap, sym, ◌∙◌}
+use Rattle.std.proofs.Common.{◌≡◌, ℕ, ◌+◌, ◌<◌, ◌≤◌, List, [], ◌∷◌, ◌++◌, length, drop, get_or, Bool, true, false, not, ◌&&◌, ◌||◌, Option, Some, None, refl}
+use Rattle.std.proofs.Common.{ap, sym, ◌∙◌}
 use Rattle.std.specs.Prelude.{bytes_eq, option_to_list, cond}
 use Rattle.std.specs.List.{list_any}
 use Rattle.std.specs.HashSet.{HashSet, UpdatesBy}
@@ -55,12 +56,15 @@ new_start s xs h =
     ∙ new_is (λ q. false) xs
     ∙ ap (λ b. not b && all_different xs) (any_none xs)
 
-names_at : (xs : List Item) (k : ℕ) (x : Item) → k < length xs → x ≡ get_or xs k x → field_names (tree.items_view (drop k xs)) ≡ option_to_list (field_name (tree.item_view x)) ++ field_names (tree.items_view (drop (k + 1) xs))
+names_at : (xs : List Item) (k : ℕ) (x : Item) → k < length xs → x ≡ get_or xs k x
+    → field_names (tree.items_view (drop k xs)) ≡ option_to_list (field_name (tree.item_view x)) ++ field_names (tree.items_view (drop (k + 1) xs))
 names_at xs k x h e = ap field_names (at_item xs k x h e)
 
 -- a field with a new name
-pub new_field : (f g : List ℕ → Bool) (xs : List Item) (k : ℕ) (x : Item) (name : List ℕ) → k < length xs → x ≡ get_or xs k x → field_name (tree.item_view x) ≡ Some name
-    → f name ≡ false → ((q : List ℕ) → g q ≡ (bytes_eq name q || f q)) → are_new f (field_names (tree.items_view (drop k xs))) ≡ are_new g (field_names (tree.items_view (drop (k + 1) xs)))
+pub new_field : (f g : List ℕ → Bool) (xs : List Item) (k : ℕ) (x : Item) (name : List ℕ) → k < length xs → x ≡ get_or xs k x
+    → field_name (tree.item_view x) ≡ Some name
+    → f name ≡ false → ((q : List ℕ) → g q ≡ (bytes_eq name q || f q))
+    → are_new f (field_names (tree.items_view (drop k xs))) ≡ are_new g (field_names (tree.items_view (drop (k + 1) xs)))
 new_field f g xs k x name h e n z u =
     let rest : List (List ℕ) = field_names (tree.items_view (drop (k + 1) xs)) in
     ap (are_new f) (names_at xs k x h e ∙ ap (λ o. option_to_list o ++ rest) n)
@@ -68,7 +72,8 @@ new_field f g xs k x name h e n z u =
     ∙ same_new (λ q. bytes_eq name q || f q) g rest (λ q. sym (u q))
 
 -- a field with a name that was seen
-pub old_field : (f : List ℕ → Bool) (xs : List Item) (k : ℕ) (x : Item) (name : List ℕ) → k < length xs → x ≡ get_or xs k x → field_name (tree.item_view x) ≡ Some name
+pub old_field : (f : List ℕ → Bool) (xs : List Item) (k : ℕ) (x : Item) (name : List ℕ) → k < length xs → x ≡ get_or xs k x
+    → field_name (tree.item_view x) ≡ Some name
     → f name ≡ true → are_new f (field_names (tree.items_view (drop k xs))) ≡ false
 old_field f xs k x name h e n z =
     let rest : List (List ℕ) = field_names (tree.items_view (drop (k + 1) xs)) in
@@ -92,7 +97,8 @@ cond_or : (a b : Bool) → cond a true b ≡ (a || b)
 cond_or true b = refl
 cond_or false b = refl
 
-pub seen_more : {S : Type 0} (s n : HashSet (Bor (List ℕ)) S) (name : Bor (List ℕ)) → UpdatesBy (λ x y. bytes_eq x.now y.now) (λ k. bytes_eq name.now k.now) s n true
+pub seen_more : {S : Type 0} (s n : HashSet (Bor (List ℕ)) S) (name : Bor (List ℕ))
+    → UpdatesBy (λ x y. bytes_eq x.now y.now) (λ k. bytes_eq name.now k.now) s n true
     → (q : List ℕ) → has_text n q ≡ (bytes_eq name.now q || has_text s q)
 seen_more s n name u q = u.0 (record { ref_ptr = (0, 0); now = q }) ∙ cond_or (bytes_eq name.now q) (has_text s q)
 

@@ -33,16 +33,21 @@ map_twice is j (Some rest) = ap Some (before_one is j rest)
 abbrev pub made_before : List TItem → Option t.Items → Option t.Items
 made_before made o = option_map (before (map typed.item_view made)) o
 
-pub typed_next : (made : List TItem) (xs : List Item) (k : ℕ) (x : Item) (scope : Scope) (y : TItem) → k < length xs → x ≡ get_or xs k x → item (tree.item_view x) scope ≡ Some (typed.item_view y)
-    → made_before made (items (tree.items_view (drop k xs)) scope) ≡ made_before (made ++ y ∷ []) (items (tree.items_view (drop (k + 1) xs)) (scope_after (tree.item_view x) (typed.item_view y) scope))
+pub typed_next : (made : List TItem) (xs : List Item) (k : ℕ) (x : Item) (scope : Scope) (y : TItem) → k < length xs → x ≡ get_or xs k x
+    → item (tree.item_view x) scope ≡ Some (typed.item_view y)
+    → made_before made (items (tree.items_view (drop k xs)) scope)
+    ≡ made_before (made ++ y ∷ []) (items (tree.items_view (drop (k + 1) xs)) (scope_after (tree.item_view x) (typed.item_view y) scope))
 typed_next made xs k x scope y h e g =
     let rest : t.Item → Option t.Items = λ j. option_map (t.item j) (items (tree.items_view (drop (k + 1) xs)) (scope_after (tree.item_view x) j scope)) in
     ap (λ is. made_before made (items is scope)) (at_item xs k x h e)
     ∙ ap (λ o. made_before made (option_and_then rest o)) g
-    ∙ map_twice (map typed.item_view made) (typed.item_view y) (items (tree.items_view (drop (k + 1) xs)) (scope_after (tree.item_view x) (typed.item_view y) scope))
-    ∙ ap (λ is. option_map (before is) (items (tree.items_view (drop (k + 1) xs)) (scope_after (tree.item_view x) (typed.item_view y) scope))) (sym (map-append typed.item_view made (y ∷ [])))
+    ∙ map_twice (map typed.item_view made) (typed.item_view y)
+    (items (tree.items_view (drop (k + 1) xs)) (scope_after (tree.item_view x) (typed.item_view y) scope))
+    ∙ ap (λ is. option_map (before is) (items (tree.items_view (drop (k + 1) xs)) (scope_after (tree.item_view x) (typed.item_view y) scope)))
+    (sym (map-append typed.item_view made (y ∷ [])))
 
-pub typed_none : (made : List TItem) (xs : List Item) (k : ℕ) (x : Item) (scope : Scope) → k < length xs → x ≡ get_or xs k x → item (tree.item_view x) scope ≡ None
+pub typed_none : (made : List TItem) (xs : List Item) (k : ℕ) (x : Item) (scope : Scope) → k < length xs → x ≡ get_or xs k x
+    → item (tree.item_view x) scope ≡ None
     → made_before made (items (tree.items_view (drop k xs)) scope) ≡ None
 typed_none made xs k x scope h e g =
     let rest : t.Item → Option t.Items = λ j. option_map (t.item j) (items (tree.items_view (drop (k + 1) xs)) (scope_after (tree.item_view x) j scope)) in

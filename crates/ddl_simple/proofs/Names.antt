@@ -1,5 +1,6 @@
 -- One more name in scope, and the search for the latest.
-use Rattle.std.proofs.Common.{◌≡◌, ℕ, zero, suc, ◌+◌, ◌-◌, ◌<◌, ◌≤◌, List, [], ◌∷◌, ◌++◌, length, map, reverse, take, get_or, Bool, true, false, cond, Option, Some, None, refl, ap, sym, ◌∙◌, arith}
+use Rattle.std.proofs.Common.{◌≡◌, ℕ, zero, suc, ◌+◌, ◌-◌, ◌<◌, ◌≤◌, List, [], ◌∷◌, ◌++◌, length, map, reverse, take, get_or, Bool, true, false, cond, Option}
+use Rattle.std.proofs.Common.{Some, None, refl, ap, sym, ◌∙◌, arith}
 use Rattle.std.specs.Prelude.{bytes_eq}
 use Rattle.std.proofs.Math.Seq.{take-suc, take-length, take-append_seam}
 use Rattle.std.proofs.lemmas.List.{map-append, take-map, reverse-append, length-map, length-reverse, length-take-le}

@@ -28,7 +28,8 @@ abbrev main_with : t.Expr → Option Declared
 main_with e = Some (record { name = codes "Main"; span = at 4 8; body = e })
 
 abbrev match_text : List ℕ → ℕ → ℕ → ex.Expr
-match_text bs i j = ex.CallGrammar (name (codes "Match") i (suc (suc (suc (suc (suc i)))))) (ex.an_expr (ex.Text bs (at (suc (suc (suc (suc (suc (suc i)))))) j)) ex.no_exprs) (at i j)
+match_text bs i j = ex.CallGrammar (name (codes "Match") i (suc (suc (suc (suc (suc i))))))
+    (ex.an_expr (ex.Text bs (at (suc (suc (suc (suc (suc (suc i)))))) j)) ex.no_exprs) (at i j)
 
 abbrev typed_match : List ℕ → ℕ → ℕ → t.Expr
 typed_match bs i j = t.expr (t.match (t.expr (t.text bs) text_type (at (suc (suc (suc (suc (suc (suc i)))))) j))) text_type (at i j)
@@ -104,14 +105,16 @@ last_let : specified (main_is (ex.Block (ex.an_item let_x (ex.an_item let_x ex.n
 last_let = refl
 
 -- def Main = (block { (UInt8) })
-in_parentheses : specified (main_is (ex.Paren (just (ex.Plain (ex.Paren (uint8 23 28) None (at 22 29)))) None (at 10 41))) ≡ specified (main_is (just (ex.Plain (uint8 23 28))))
+in_parentheses : specified (main_is (ex.Paren (just (ex.Plain (ex.Paren (uint8 23 28) None (at 22 29)))) None (at 10 41)))
+    ≡ specified (main_is (just (ex.Plain (uint8 23 28))))
 in_parentheses = refl
 
 -- `^ (x)` is `^ x`, and `(x)` has the place of x
 abbrev x_at : ex.Expr → ex.Expr
 x_at x = ex.Block (ex.an_item let_x (ex.an_item (ex.Plain (ex.Pure x (at 34 40))) ex.no_items)) (at 11 42)
 
-name_in_parentheses : specified (main_is (x_at (ex.Paren (ex.Lower (name (codes "x") 37 38)) None (at 36 39)))) ≡ specified (main_is (x_at (ex.Lower (name (codes "x") 37 38))))
+name_in_parentheses : specified (main_is (x_at (ex.Paren (ex.Lower (name (codes "x") 37 38)) None (at 36 39))))
+    ≡ specified (main_is (x_at (ex.Lower (name (codes "x") 37 38))))
 name_in_parentheses = refl
 
 -- a written type is not of the form
@@ -138,7 +141,8 @@ nested : specified (main_is (ex.Block
     ≡ main_with (t.expr (t.block
     (t.item (t.let_ 0 (typed_uint8 27 32))
     (t.item (t.plain (t.expr (t.block (t.item (t.plain (typed_x 0 byte_type)) t.no_items)) byte_type (at 11 40)))
-    (t.item (t.plain (t.expr (t.block (t.item (t.let_ 1 (t.expr t.end unit_type (at 48 51))) (t.item (t.plain (typed_x 1 unit_type)) t.no_items))) unit_type (at 40 60)))
+    (t.item (t.plain (t.expr (t.block (t.item (t.let_ 1 (t.expr t.end unit_type (at 48 51))) (t.item (t.plain (typed_x 1 unit_type)) t.no_items))) unit_type
+    (at 40 60)))
     (t.item (t.plain (typed_x 0 byte_type))
     t.no_items))))) byte_type (at 11 70))
 nested = refl

@@ -104,9 +104,12 @@ mutual
   simple_items (ex.an_item i is) scope = simple_step i is scope (item i scope) (simple_item i scope) (λ j. simple_items is (scope_after i j scope))
 
   simple_item : (i : ex.Item) (scope : Scope) → IfSome (item i scope) (IsStep i scope)
-  simple_item (ex.Result e s) scope = if_map (λ r. IsSimple r (length scope)) (IsStep (ex.Result e s) scope) t.result_ (grammar e scope) (λ r h. (h, refl)) (simple_grammar e scope)
-  simple_item (ex.Let x e s) scope = if_map (λ r. IsSimple r (length scope)) (IsStep (ex.Let x e s) scope) (t.let_ (length scope)) (grammar e scope) (λ r h. ((refl, h), one_more (length scope))) (simple_grammar e scope)
-  simple_item (ex.Field x e s) scope = if_map (λ r. IsSimple r (length scope)) (IsStep (ex.Field x e s) scope) (t.field x.text (length scope)) (grammar e scope) (λ r h. ((refl, h), one_more (length scope))) (simple_grammar e scope)
+  simple_item (ex.Result e s) scope = if_map (λ r. IsSimple r (length scope)) (IsStep (ex.Result e s) scope) t.result_ (grammar e scope) (λ r h.
+      (h, refl)) (simple_grammar e scope)
+  simple_item (ex.Let x e s) scope = if_map (λ r. IsSimple r (length scope)) (IsStep (ex.Let x e s) scope) (t.let_ (length scope)) (grammar e scope) (λ r h.
+      ((refl, h), one_more (length scope))) (simple_grammar e scope)
+  simple_item (ex.Field x e s) scope = if_map (λ r. IsSimple r (length scope)) (IsStep (ex.Field x e s) scope) (t.field x.text (length scope)) (grammar e scope)
+      (λ r h. ((refl, h), one_more (length scope))) (simple_grammar e scope)
   simple_item (ex.Plain e) scope =
       if_map (λ r. IsSimple r (length scope)) (IsStep (ex.Plain e) scope) t.plain (option_or (pure_at (bare e) scope) (grammar e scope)) (λ r h. (h, refl))
       (if_or (λ r. IsSimple r (length scope)) (pure_at (bare e) scope) (grammar e scope) (simple_pure (bare e) scope) (simple_grammar e scope))

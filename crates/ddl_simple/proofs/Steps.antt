@@ -1,5 +1,6 @@
 -- One more item, counted and typed.
-use Rattle.std.proofs.Common.{◌≡◌, ℕ, zero, suc, ◌+◌, ◌-◌, ◌<◌, ◌≤◌, List, [], ◌∷◌, length, drop, get_or, Bool, true, false, ◌||◌, Option, Some, None, if◌then◌else◌, refl, ap, sym, ◌∙◌, arith}
+use Rattle.std.proofs.Common.{◌≡◌, ℕ, zero, suc, ◌+◌, ◌-◌, ◌<◌, ◌≤◌, List, [], ◌∷◌, length, drop, get_or, Bool, true, false, ◌||◌, Option, Some, None}
+use Rattle.std.proofs.Common.{if◌then◌else◌, refl, ap, sym, ◌∙◌, arith}
 use Rattle.std.specs.Option.{option_or, is_some}
 use Rattle.std.specs.Prelude.{nat_le}
 use Rattle.std.proofs.lemmas.Bool.{leb-true, le-leb}
@@ -15,13 +16,15 @@ use Rattle.ddl_simple.proofs.Lists.{at_item, no_item, at_typed, no_typed}
 
 -- ---- counts
 
-pub results_next : (xs : List Item) (k : ℕ) (x : Item) → k < length xs → x ≡ get_or xs k x → results (tree.items_view (drop k xs)) ≡ (if is_result (tree.item_view x) then 1 else 0) + results (tree.items_view (drop (k + 1) xs))
+pub results_next : (xs : List Item) (k : ℕ) (x : Item) → k < length xs → x ≡ get_or xs k x
+    → results (tree.items_view (drop k xs)) ≡ (if is_result (tree.item_view x) then 1 else 0) + results (tree.items_view (drop (k + 1) xs))
 results_next xs k x h e = ap results (at_item xs k x h e)
 
 pub results_all : (xs : List Item) (k : ℕ) → length xs ≤ k → results (tree.items_view (drop k xs)) ≡ 0
 results_all xs k h = ap results (no_item xs k h)
 
-pub blocks_next : (xs : List Item) (k : ℕ) (x : Item) → k < length xs → x ≡ get_or xs k x → blocks_of_items (tree.items_view (drop k xs)) ≡ blocks_of_item (tree.item_view x) + blocks_of_items (tree.items_view (drop (k + 1) xs))
+pub blocks_next : (xs : List Item) (k : ℕ) (x : Item) → k < length xs → x ≡ get_or xs k x
+    → blocks_of_items (tree.items_view (drop k xs)) ≡ blocks_of_item (tree.item_view x) + blocks_of_items (tree.items_view (drop (k + 1) xs))
 blocks_next xs k x h e = ap blocks_of_items (at_item xs k x h e)
 
 pub blocks_all : (xs : List Item) (k : ℕ) → length xs ≤ k → blocks_of_items (tree.items_view (drop k xs)) ≡ 0
@@ -44,13 +47,15 @@ pub ruleset few = (few_blocks)
 
 -- ---- types
 
-pub result_next : (xs : List TItem) (k : ℕ) (x : TItem) → k < length xs → x ≡ get_or xs k x → result_type (typed.items_view (drop k xs)) ≡ option_or (dollar_type (typed.item_view x)) (result_type (typed.items_view (drop (k + 1) xs)))
+pub result_next : (xs : List TItem) (k : ℕ) (x : TItem) → k < length xs → x ≡ get_or xs k x
+    → result_type (typed.items_view (drop k xs)) ≡ option_or (dollar_type (typed.item_view x)) (result_type (typed.items_view (drop (k + 1) xs)))
 result_next xs k x h e = ap result_type (at_typed xs k x h e)
 
 pub result_all : (xs : List TItem) (k : ℕ) → length xs ≤ k → result_type (typed.items_view (drop k xs)) ≡ None
 result_all xs k h = ap result_type (no_typed xs k h)
 
-pub field_next : (xs : List TItem) (k : ℕ) (x : TItem) → k < length xs → x ≡ get_or xs k x → has_field (typed.items_view (drop k xs)) ≡ (is_field (typed.item_view x) || has_field (typed.items_view (drop (k + 1) xs)))
+pub field_next : (xs : List TItem) (k : ℕ) (x : TItem) → k < length xs → x ≡ get_or xs k x
+    → has_field (typed.items_view (drop k xs)) ≡ (is_field (typed.item_view x) || has_field (typed.items_view (drop (k + 1) xs)))
 field_next xs k x h e = ap has_field (at_typed xs k x h e)
 
 pub field_all : (xs : List TItem) (k : ℕ) → length xs ≤ k → has_field (typed.items_view (drop k xs)) ≡ false

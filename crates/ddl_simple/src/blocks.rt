@@ -1,9 +1,12 @@
-ghost use Rattle.std.specs.Prelude.{◌≡◌, ◌||◌, IfOk, List, OnOk, bytes_eq, if◌then◌else◌, not, option_copied, option_map, ℕ};
+ghost use Rattle.std.specs.Prelude.{◌≡◌, ◌||◌, IfOk, List, OnOk, bytes_eq, if◌then◌else◌, not, option_copied};
+ghost use Rattle.std.specs.Prelude.{option_map, ℕ};
 ghost use Rattle.ddl_types.specs.TyView.{ty_view};
 ghost use Rattle.ddl_tree.specs.View as tree;
 ghost use Rattle.ddl_typed.specs.View.{item_view, items_view};
 ghost use Rattle.ddl_simple.specs.Form.{record_type};
-ghost use Rattle.ddl_simple.specs.Blocks.{all_different, block_type, dollar_type, field_name, field_names, given_type, has_field, is_field, is_result, item_type, last_type, may_stand, result_type, results};
+ghost use Rattle.ddl_simple.specs.Blocks.{all_different, block_type, dollar_type, field_name, field_names, given_type};
+ghost use Rattle.ddl_simple.specs.Blocks.{has_field, is_field, is_result, item_type, last_type, may_stand, result_type};
+ghost use Rattle.ddl_simple.specs.Blocks.{results};
 ghost use Rattle.ddl_simple.specs.Views.{has_text};
 
 use crate::types::{record_type, unit_type};
@@ -99,7 +102,8 @@ pub(crate) fn block_type(alloc: Global, items: &[TItem], span: Span) -> Result<T
 }
 
 fn fields_type(alloc: Global, items: &[TItem], span: Span) -> Result<Ty, NoMemory>
-    ensures { IfOk result (λ of. ty_view of ≡ (if has_field (items_view items.now) then record_type span.from else last_type (items_view items.now))) }
+    ensures { IfOk result (λ of. ty_view of ≡ (if has_field (items_view items.now) then record_type span.from else
+        last_type (items_view items.now))) }
 {
     if has_field(items) {
         Ok(record_type(alloc, span.from))

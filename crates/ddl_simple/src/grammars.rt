@@ -60,7 +60,8 @@ fn call(alloc: Global, name: &Name, args: &[Expr], span: Span) -> Result<TExpr, 
 #[cycle(grammar)]
 #[tactic(auto, using(ddl_typed::proofs::Layers::layers, crate::proofs::Names::names_in_order))]
 fn block(alloc: Global, items: &[Item], span: Span, scope: &mut Scope) -> Result<TExpr, Stop>
-    ensures typed { Gives view (defined.block_of span (tree.items_view items.now) (defined.items (tree.items_view items.now) (scope_view scope.old))) result }
+    ensures typed { Gives view (defined.block_of span (tree.items_view items.now)
+        (defined.items (tree.items_view items.now) (scope_view scope.old))) result }
     ensures kept { OnOk result (bound scope.new ≡ bound scope.old) }
 {
     if !may_stand(alloc, items)? {
@@ -141,7 +142,8 @@ fn alone(alloc: Global, expr: &Expr, scope: &Scope) -> Result<Option<TExpr>, Sto
 // What an item binds.
 #[tactic(auto, using(ddl_tree::proofs::Layers::layers, crate::proofs::Names::names_in_order))]
 fn bind(alloc: Global, item: &Item, typed: &TItem, scope: &mut Scope) -> Result<(), NoMemory>
-    ensures bound { OnOk result (scope_view scope.new ≡ defined.scope_after (tree.item_view item.now) (item_view typed.now) (scope_view scope.old)) }
+    ensures bound { OnOk result (scope_view scope.new
+        ≡ defined.scope_after (tree.item_view item.now) (item_view typed.now) (scope_view scope.old)) }
     ensures below { OnOk result (take (length (bound scope.old)) (bound scope.new) ≡ bound scope.old) }
 {
     match item {

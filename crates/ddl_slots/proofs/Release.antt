@@ -1,5 +1,6 @@
 -- A release keeps counts equal to references.
-use Rattle.std.proofs.Common.{◌≡◌, ℕ, zero, suc, ◌+◌, ◌<◌, ◌≤◌, ◌≢◌, List, [], ◌∷◌, length, Option, Some, None, refl, sym, ap, ◌∙◌, if◌then◌else◌, arith, eq-eqb, ne_eqb}
+use Rattle.std.proofs.Common.{◌≡◌, ℕ, zero, suc, ◌+◌, ◌<◌, ◌≤◌, ◌≢◌, List, [], ◌∷◌, length, Option, Some, None, refl, sym, ap, ◌∙◌, if◌then◌else◌, arith}
+use Rattle.std.proofs.Common.{eq-eqb, ne_eqb}
 use Rattle.ddl_slots.specs.declared.word.Word.{Word}
 use Rattle.ddl_slots.specs.Counted.{Counted, hit_slot, refs, refs_entry, inner, count_of}
 use Rattle.ddl_slots.specs.Laws.{ReleaseKeeps}
@@ -23,8 +24,10 @@ inner_set x [] (suc y) o = let k : inner x (set [] y o) + 0 ≡ 0 + refs_entry x
 inner_set x (p ∷ m) zero o = omega arith
 inner_set x (p ∷ m) (suc y) o = let k : inner x (set m y o) + refs_entry x (entry m y) ≡ inner x m + refs_entry x o = inner_set x m y o in omega arith
 
-pub inner_put : (x : ℕ) (m : Slots) (y : ℕ) (e : Entry) (o : Option Entry) → entry m y ≡ Some e → inner x (put m y o) + refs x e.node.words ≡ inner x m + refs_entry x o
-inner_put x m y e o h = let k : refs_entry x (entry m y) ≡ refs x e.node.words = ap (refs_entry x) h in omega (arith, inner_trim x (set m y o), inner_set x m y o)
+pub inner_put : (x : ℕ) (m : Slots) (y : ℕ) (e : Entry) (o : Option Entry) → entry m y ≡ Some e
+    → inner x (put m y o) + refs x e.node.words ≡ inner x m + refs_entry x o
+inner_put x m y e o h = let k : refs_entry x (entry m y) ≡ refs x e.node.words =
+    ap (refs_entry x) h in omega (arith, inner_trim x (set m y o), inner_set x m y o)
 
 hit_same : (x : ℕ) → hit_slot x (Some x) ≡ 1
 hit_same x = ap (λ t. if t then 1 else 0) (eq-eqb x x refl)
@@ -128,7 +131,8 @@ all_keep (w ∷ ws) m dead outer p =
     let t : Walked (lower_all ws r) [] outer (live r.map + length r.dead) = all_keep ws r.map r.dead outer s.waits in
     record { waits = t.waits; size = t.size ∙ s.size }
 
-settle_keeps : (n : ℕ) (m : Slots) (dead : List (List Word)) (outer : ℕ → ℕ) → live m + length dead ≤ n → Waits m [] dead outer → Counted (settle n m dead) outer
+settle_keeps : (n : ℕ) (m : Slots) (dead : List (List Word)) (outer : ℕ → ℕ) → live m + length dead ≤ n → Waits m [] dead outer
+    → Counted (settle n m dead) outer
 settle_keeps n m [] outer le p = record { by = λ x. omega (arith, p.by x); positive = p.positive }
 settle_keeps zero m (ws ∷ dead) outer le p = absurd (omega arith)
 settle_keeps (suc n) m (ws ∷ dead) outer le p =

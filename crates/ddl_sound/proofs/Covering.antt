@@ -11,7 +11,8 @@ use Rattle.ddl_typed.specs.Tree.{Cases, no_cases, when}
 use Rattle.ddl_ops.specs.Patterns.{Matched, has_it, has_another, has_none, matched}
 use Rattle.ddl_typed.specs.Specification.{Place}
 use Rattle.ddl_sound.specs.HasType.{HasType, tag_type}
-use Rattle.ddl_sound.specs.Exhaustive.{Exhaustive, by_any, by_truths, by_maybe, by_tags, by_constructors, has_pattern, is_any, is_truth, is_nothing, is_just, is_tag, HasTags, constructors_of}
+use Rattle.ddl_sound.specs.Exhaustive.{Exhaustive, by_any, by_truths, by_maybe, by_tags, by_constructors, has_pattern, is_any, is_truth, is_nothing, is_just}
+use Rattle.ddl_sound.specs.Exhaustive.{is_tag, HasTags, constructors_of}
 use Rattle.ddl_sound.proofs.Reading.{on_bits, on_place, none_some, some_is, false_true}
 use Rattle.ddl_sound.proofs.Members.{bytes_are_same}
 

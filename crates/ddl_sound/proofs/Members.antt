@@ -1,10 +1,12 @@
 -- Records, unions, bitdata and patterns at values of their types.
-use Rattle.std.proofs.Common.{◌≡◌, ℕ, ◌==◌, ◌&&◌, ◌||◌, ◌^◌, List, [], ◌∷◌, map, Bool, true, false, if◌then◌else◌, pos, Option, Some, None, refl, sym, subst, ◌∙◌, ap, arith, rules}
+use Rattle.std.proofs.Common.{◌≡◌, ℕ, ◌==◌, ◌&&◌, ◌||◌, ◌^◌, List, [], ◌∷◌, map, Bool, true, false, if◌then◌else◌, pos, Option, Some, None, refl, sym, subst}
+use Rattle.std.proofs.Common.{◌∙◌, ap, arith, rules}
 use Rattle.std.specs.Prelude.{bytes_eq, nat_lt}
 use Rattle.std.specs.Ordering.{int_eq}
 use Rattle.std.proofs.lemmas.Bool.{ltb-true}
 use Rattle.ddl_types.specs.declared.num.NumType.TheVariants as num
-use Rattle.ddl_types.specs.Layout.{Layout, Parts, Con, no_cons, one_of, named_con, no_parts, part, fixed, free, inner, upper, lower, fits, con_fits, parts_fit, part_fits, con_of, only_con}
+use Rattle.ddl_types.specs.Layout.{Layout, Parts, Con, no_cons, one_of, named_con, no_parts, part, fixed, free, inner, upper, lower, fits, con_fits, parts_fit}
+use Rattle.ddl_types.specs.Layout.{part_fits, con_of, only_con}
 use Rattle.ddl_types.specs.Types.{Ty, Tys, con, none, uint, maybe_of, bits, place, on, arguments}
 use Rattle.ddl_types.specs.Types as t
 use Rattle.ddl_types.specs.Value.{Value, Fields, number, bitdata, fields, tagged, no_fields, field}

@@ -1,5 +1,6 @@
 -- Operators, casts and built-ins at values of their types.
-use Rattle.std.proofs.Common.{◌≡◌, ℕ, ◌==◌, List, [], ◌∷◌, Bool, true, false, if◌then◌else◌, not, ℤ, pos, Option, Some, None, refl, sym, subst, ◌∙◌, ap, arith, rules, ◌≤◌}
+use Rattle.std.proofs.Common.{◌≡◌, ℕ, ◌==◌, List, [], ◌∷◌, Bool, true, false, if◌then◌else◌, not, ℤ, pos, Option, Some, None, refl, sym, subst, ◌∙◌, ap, arith}
+use Rattle.std.proofs.Common.{rules, ◌≤◌}
 use Rattle.ddl_base.specs.declared.span.Span.{Span}
 use Rattle.ddl_types.specs.declared.num.NumType.{NumType}
 use Rattle.ddl_types.specs.declared.num.NumType.TheVariants as num
@@ -35,7 +36,8 @@ use Rattle.ddl_typed.specs.Specification.{Place}
 use Rattle.std.specs.declared.cmp.Ordering.{Ordering}
 use Rattle.ddl_sound.specs.HasType.{HasType, AllHave, IsStream}
 use Rattle.ddl_sound.specs.BasicTypes.{IsBool, IsNumeric, array_type, map_type, maybe_type, byte_type, count_type, stream_type}
-use Rattle.ddl_sound.specs.Operations.{InfixRule, PrefixRule, Lossless, same, numbers, bits_number, number_bits, Cuts, MayFit, fits_same, fits_number, fits_bits, CastRule, BuiltinRule}
+use Rattle.ddl_sound.specs.Operations.{InfixRule, PrefixRule, Lossless, same, numbers, bits_number, number_bits, Cuts, MayFit, fits_same, fits_number}
+use Rattle.ddl_sound.specs.Operations.{fits_bits, CastRule, BuiltinRule}
 use Rattle.ddl_sound.specs.Sound.{Gives, There, Parses}
 use Rattle.ddl_sound.proofs.Joins.{then_gives, gives_counted}
 use Rattle.ddl_sound.proofs.Reading.{on_number, on_bool, is_boolean, on_unsigned, on_array, on_map, on_stream, on_bits, none_some, some_is}

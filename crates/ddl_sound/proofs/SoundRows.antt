@@ -14,7 +14,8 @@ use Rattle.ddl_ops.specs.declared.operators.Comparison.TheVariants.{Less}
 use Rattle.ddl_ops.specs.declared.operators.Cast.TheVariants.{Keep}
 use Rattle.ddl_ops.specs.declared.pattern.Pattern.TheVariants.{Truth}
 use Rattle.ddl_ops.specs.Numbers.{number_type}
-use Rattle.ddl_typed.specs.Tree.{Name, own, Expr, Cases, expr, local, literal, truth, list, infix_, cast, value_call, case_, if_, pure, match, end, choose, call, no_alts, more, no_exprs, when, no_cases, no_args, by_value, block, no_items, item, plain, let_, field}
+use Rattle.ddl_typed.specs.Tree.{Name, own, Expr, Cases, expr, local, literal, truth, list, infix_, cast, value_call, case_, if_, pure, match, end, choose}
+use Rattle.ddl_typed.specs.Tree.{call, no_alts, more, no_exprs, when, no_cases, no_args, by_value, block, no_items, item, plain, let_, field}
 use Rattle.ddl_typed.specs.Meaning.{form_at}
 use Rattle.ddl_typed.specs.Specification.{Place}
 use Rattle.ddl_typed.proofs.RowForms.{span, byte, named, match_text, int_at, byte_type, bytes_type, int_type, bool_type, unit_type, record_type}

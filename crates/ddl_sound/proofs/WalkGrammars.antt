@@ -10,7 +10,9 @@ use Rattle.ddl_types.specs.Joining.{Bind}
 use Rattle.ddl_typed.specs.declared.parts.Choice.{Choice}
 use Rattle.ddl_typed.specs.declared.parts.Choice.TheVariants.{Biased, Unbiased}
 use Rattle.ddl_ops.specs.ByteSets.{class_byte}
-use Rattle.ddl_typed.specs.Tree.{Expr, Form, Exprs, Cases, Bounds, Alts, Args, Items, Item, Spec, expr, text, paren, if_, case_, for_, map_, pure, uint8, match, end, class, fail, primitive, is_, fits, block, first, choose, many, optional, call, named, no_cases, when, unbounded, exactly, from_, up_to, between, no_alts, alt, tag, no_items, item, plain, let_, result_}
+use Rattle.ddl_typed.specs.Tree.{Expr, Form, Exprs, Cases, Bounds, Alts, Args, Items, Item, Spec, expr, text, paren, if_, case_, for_, map_, pure, uint8, match}
+use Rattle.ddl_typed.specs.Tree.{end, class, fail, primitive, is_, fits, block, first, choose, many, optional, call, named, no_cases, when, unbounded, exactly}
+use Rattle.ddl_typed.specs.Tree.{from_, up_to, between, no_alts, alt, tag, no_items, item, plain, let_, result_}
 use Rattle.ddl_typed.specs.Tree as tree
 use Rattle.ddl_typed.specs.Env.{Env, empty, with_value, type_in, with_optional}
 use Rattle.ddl_ops.specs.Valued.{Valued}
@@ -25,12 +27,14 @@ use Rattle.ddl_ops.specs.Patterns.{Matched, has_it, has_another, has_none, match
 use Rattle.ddl_base.specs.declared.why.Why.TheVariants.{Guard}
 use Rattle.ddl_ops.specs.Primitives.{one_byte, at_end, match_value, byte_values, missed_at}
 use Rattle.ddl_typed.specs.Classes.{class_set}
-use Rattle.ddl_typed.specs.Meaning.{called, val, vals, args_env, limits_of, fold_values, each_values, folds, eaches, den, form_den, den_items, den_item, den_first, den_choose, den_case, fold_value_turn, each_value_turn, fold_turn, each_turn, on_or_stop, repeat_turn}
+use Rattle.ddl_typed.specs.Meaning.{called, val, vals, args_env, limits_of, fold_values, each_values, folds, eaches, den, form_den, den_items, den_item}
+use Rattle.ddl_typed.specs.Meaning.{den_first, den_choose, den_case, fold_value_turn, each_value_turn, fold_turn, each_turn, on_or_stop, repeat_turn}
 use Rattle.ddl_typed.specs.Specification.{Place}
 use Rattle.ddl_sound.specs.HasType.{HasType, AllHave, PairsHave, IsStream}
 use Rattle.ddl_sound.specs.Context.{Context, no_names, name, optional_name, turn_context}
 use Rattle.ddl_sound.specs.BlockTypes.{type_of, form_of_item, Making, nothing_made, made_with, context_after}
-use Rattle.ddl_sound.specs.Typed.{types_of, grammars, Signature, HasAlternatives, TypedValue, AreValues, ArgumentsRule, BoundsRule, TypedGrammar, GrammarRule, ItemsRule, ItemRule, AlternativesRule, BranchesRule, AreTyped}
+use Rattle.ddl_sound.specs.Typed.{types_of, grammars, Signature, HasAlternatives, TypedValue, AreValues, ArgumentsRule, BoundsRule, TypedGrammar, GrammarRule}
+use Rattle.ddl_sound.specs.Typed.{ItemsRule, ItemRule, AlternativesRule, BranchesRule, AreTyped}
 use Rattle.ddl_sound.specs.BasicTypes.{IsBool, array_type, maybe_type, unit_type, byte_type}
 use Rattle.ddl_sound.specs.Members.{HasTag}
 use Rattle.ddl_sound.specs.Sound.{Gives, Parses, EnvHas}

@@ -4,7 +4,9 @@ use Rattle.ddl_base.specs.declared.span.Span.{Span}
 use Rattle.ddl_types.specs.Types.{Ty}
 use Rattle.ddl_types.specs.Value.{Value, Values, Pairs, boolean, just, array, no_pairs, pair}
 use Rattle.ddl_types.specs.Outcome.{Outcome}
-use Rattle.ddl_typed.specs.Tree.{Expr, Form, Exprs, Named, Content, Cases, Args, Spec, expr, text, local, literal, truth, nothing_, just_, list, record_, union_, select, infix_, prefix_, cast, builtin, value_call, paren, if_, case_, for_, map_, no_exprs, more, no_named, named, no_content, content, no_cases, when, no_args, by_value, by_hand}
+use Rattle.ddl_typed.specs.Tree.{Expr, Form, Exprs, Named, Content, Cases, Args, Spec, expr, text, local, literal, truth, nothing_, just_, list, record_}
+use Rattle.ddl_typed.specs.Tree.{union_, select, infix_, prefix_, cast, builtin, value_call, paren, if_, case_, for_, map_, no_exprs, more, no_named, named}
+use Rattle.ddl_typed.specs.Tree.{no_content, content, no_cases, when, no_args, by_value, by_hand}
 use Rattle.ddl_typed.specs.Env.{Env, empty, with_value, with_name, named_in, value_in, type_in, with_optional}
 use Rattle.ddl_ops.specs.Valued.{Valued}
 use Rattle.ddl_typed.specs.Lower.{Lower}
@@ -16,7 +18,8 @@ use Rattle.ddl_typed.specs.Specification.{Place}
 use Rattle.ddl_sound.specs.HasType.{HasType, AllHave, PairsHave}
 use Rattle.ddl_sound.specs.Context.{Context, no_names, name, context_with, optional_name, turn_context}
 use Rattle.ddl_sound.specs.BlockTypes.{type_of}
-use Rattle.ddl_sound.specs.Typed.{types_of, names_in, types_in, content_type, values, Signature, TypedValue, ValueRule, AllOf, AreValues, AreNamed, IsContent, CasesRule, ArgumentsRule, TypedGrammar, AreTyped}
+use Rattle.ddl_sound.specs.Typed.{types_of, names_in, types_in, content_type, values, Signature, TypedValue, ValueRule, AllOf, AreValues, AreNamed, IsContent}
+use Rattle.ddl_sound.specs.Typed.{CasesRule, ArgumentsRule, TypedGrammar, AreTyped}
 use Rattle.ddl_sound.specs.BasicTypes.{IsBool, array_type, maybe_type}
 use Rattle.ddl_sound.specs.Sound.{Gives, Parses, EnvHas}
 use Rattle.ddl_sound.proofs.Joins.{then_gives, gives_given, gives_as, has_as, has_back}

@@ -9,7 +9,11 @@ use Rattle.ddl_ops.specs.Patterns.{name_of}
 use Rattle.ddl_ops.specs.Primitives.{byte_values}
 use Rattle.ddl_typed.specs.Meaning.{form_at}
 use Rattle.ddl_typed.specs.Specification.{Place}
-use Rattle.ddl_typed.specs.Tree.{Expr, Form, Exprs, Named, Content, Cases, Bounds, Alts, Args, Items, Item, Spec, expr, text, local, literal, truth, nothing_, just_, list, record_, union_, select, infix_, prefix_, cast, builtin, value_call, paren, if_, case_, for_, map_, pure, uint8, match, end, class, fail, primitive, is_, fits, block, first, choose, many, optional, call, no_exprs, more, no_named, named, no_content, content, no_cases, when, unbounded, exactly, from_, up_to, between, no_alts, alt, tag, no_args, by_value, by_hand, no_items, item, plain, let_, field, result_}
+use Rattle.ddl_typed.specs.Tree.{Expr, Form, Exprs, Named, Content, Cases, Bounds, Alts, Args, Items, Item, Spec, expr, text, local, literal, truth, nothing_}
+use Rattle.ddl_typed.specs.Tree.{just_, list, record_, union_, select, infix_, prefix_, cast, builtin, value_call, paren, if_, case_, for_, map_, pure, uint8}
+use Rattle.ddl_typed.specs.Tree.{match, end, class, fail, primitive, is_, fits, block, first, choose, many, optional, call, no_exprs, more, no_named, named}
+use Rattle.ddl_typed.specs.Tree.{no_content, content, no_cases, when, unbounded, exactly, from_, up_to, between, no_alts, alt, tag, no_args, by_value, by_hand}
+use Rattle.ddl_typed.specs.Tree.{no_items, item, plain, let_, field, result_}
 use Rattle.ddl_mono.specs.IsMono.{IsThose}
 use Rattle.ddl_sound.specs.HasType.{HasType}
 use Rattle.ddl_sound.specs.Context.{Context, no_names, name, context_with, local_type, named_type, optional_name, turn_context}

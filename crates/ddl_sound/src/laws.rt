@@ -1,4 +1,5 @@
-ghost use Rattle.ddl_sound.specs.Laws.{NeverStuck, FormsAreSound, ValuesAreSound, SoundOn, SoundBack, SoundCut, CoreNeverStuck, KeptNeverStuck, TypedAnswers, KeptAnswers};
+ghost use Rattle.ddl_sound.specs.Laws.{NeverStuck, FormsAreSound, ValuesAreSound, SoundOn, SoundBack, SoundCut};
+ghost use Rattle.ddl_sound.specs.Laws.{CoreNeverStuck, KeptNeverStuck, TypedAnswers, KeptAnswers};
 
 /// The law of types: of a well typed specification no run ends at a form without meaning, at any depth and on any stream, and
 /// each parse is of the type of what is run. So are its forms, each at its type. There is nothing to run.

@@ -36,7 +36,8 @@ as_many m [] = refl
 as_many m (t ∷ ts) = let h = as_many m ts in omega (arith, h)
 
 -- a text whose tokens are printed has the module as its tree, each part at the place of its tokens
-tree_there : (m : ℕ) (a : Module) (text : List ℕ) (ts : List Token) → IsModule a → module_depth a ≤ 200 → HasTokens text ts → kinds_of ts ≡ print_module a → HasTree m text (placed a (places_of m ts))
+tree_there : (m : ℕ) (a : Module) (text : List ℕ) (ts : List Token) → IsModule a → module_depth a ≤ 200 → HasTokens text ts → kinds_of ts ≡ print_module a
+    → HasTree m text (placed a (places_of m ts))
 tree_there m a text ts i deep tokens same =
     let spans : List Span = places_of m ts in
     let xs : List Seen = seen (print_module a) (record { last = nowhere; rest = spans }) in
@@ -47,14 +48,16 @@ tree_there m a text ts i deep tokens same =
     (ts, tokens, (read.0, printed, stands, rw (depth_placed a spans) deep))
 
 -- two trees of the grammar with the tokens of one text differ in nothing but spans
-pub same_tree : (m : ℕ) (a b : Module) → IsModule a → AreTokenForms (print_module a) → length (print_module a) ≤ 2 ^ 20 → HasTree m (show_text a) b → SameButSpans a b
+pub same_tree : (m : ℕ) (a b : Module) → IsModule a → AreTokenForms (print_module a) → length (print_module a) ≤ 2 ^ 20 → HasTree m (show_text a) b
+    → SameButSpans a b
 same_tree m a b i forms few h =
     let back = reads_back a forms few in
     let cut : h.1.0 ≡ back.0 = one_list (show_text a) h.1.0 back.0 h.1.1 back.1 in
     let kinds_are : kinds_of h.0 ≡ print_module a = ap kinds_of h.1.2 ∙ ap (λ tokens. kinds_of (lay None [] tokens)) cut ∙ back.2 in
     one_module a b i h.2.0 (sym kinds_are ∙ sym h.2.1)
 
-pub there : (m : ℕ) (a : Module) → IsModule a → AreTokenForms (print_module a) → length (print_module a) ≤ 2 ^ 20 → module_depth a ≤ 200 → (b : Module) × HasTree m (show_text a) b × SameButSpans a b
+pub there : (m : ℕ) (a : Module) → IsModule a → AreTokenForms (print_module a) → length (print_module a) ≤ 2 ^ 20 → module_depth a ≤ 200
+    → (b : Module) × HasTree m (show_text a) b × SameButSpans a b
 there m a i forms few deep =
     let back = reads_back a forms few in
     let ts : List Token = lay None [] back.0 in

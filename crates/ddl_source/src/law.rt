@@ -16,8 +16,10 @@ ghost use Rattle.ddl_source.specs.Source.{HasTree};
 /// The contract is the law, of all modules of the grammar that nest at most 200 forms, whose tokens are of the forms of the
 /// language and no more than a text may have. The function does nothing.
 pub fn shown_modules_are_read_back()
-    ensures there { (m : ℕ) (a : tree.Module) → IsModule a → AreTokenForms (print_module a) → length (print_module a) ≤ 2 ^ 20
+    ensures there { (m : ℕ) (a : tree.Module) → IsModule a → AreTokenForms (print_module a)
+        → length (print_module a) ≤ 2 ^ 20
         → module_depth a ≤ 200 → (b : tree.Module) × HasTree m (show_text a) b × SameButSpans a b }
-    ensures same { (m : ℕ) (a : tree.Module) (b : tree.Module) → IsModule a → AreTokenForms (print_module a) → length (print_module a) ≤ 2 ^ 20
+    ensures same { (m : ℕ) (a : tree.Module) (b : tree.Module) → IsModule a → AreTokenForms (print_module a)
+        → length (print_module a) ≤ 2 ^ 20
         → HasTree m (show_text a) b → SameButSpans a b }
 {}

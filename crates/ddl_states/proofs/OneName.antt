@@ -23,7 +23,8 @@ unnamed_layer _ h = refl
 pub unnamed : (e : Expr) → ((x : Name) → e ≡ expr.Lower x → ⊥) → named (view e) ≡ None
 unnamed e h = ap named (view_out e) ∙ unnamed_layer (out-Expr e) (λ x is. h x (sym (roll-out-Expr e) ∙ is))
 
-uncalled_layer : (l : Expr-F Alternatives Bound Expr Item Alt Binding) → ((x : Name) → roll-Expr l ≡ expr.Upper x → ⊥) → ((x : Name) → roll-Expr l ≡ expr.Lower x → ⊥) → called (view_layer l) ≡ None
+uncalled_layer : (l : Expr-F Alternatives Bound Expr Item Alt Binding) → ((x : Name) → roll-Expr l ≡ expr.Upper x → ⊥)
+    → ((x : Name) → roll-Expr l ≡ expr.Lower x → ⊥) → called (view_layer l) ≡ None
 unfolding roll-Expr denote.Hole.Carrier.roll
 uncalled_layer (Expr-F.Upper x) g h = absurd (g x refl)
 uncalled_layer (Expr-F.Lower x) g h = absurd (h x refl)

@@ -21,12 +21,14 @@ split_last : (xs : List Frame) (f : Frame) → 0 < length xs → f ≡ get_or xs
 split_last xs f some e =
     let n : suc (length xs - 1) ≡ length xs = omega arith in
     let below : length xs - 1 < length xs = omega arith in
-    sym (take_all (length xs) xs (omega arith)) ∙ ap (λ k. take k xs) (sym n) ∙ take-suc xs (length xs - 1) f below ∙ ap (λ z. take (length xs - 1) xs ++ z ∷ []) (sym e)
+    sym (take_all (length xs) xs (omega arith)) ∙ ap (λ k. take k xs) (sym n) ∙ take-suc xs (length xs - 1) f below
+    ∙ ap (λ z. take (length xs - 1) xs ++ z ∷ []) (sym e)
 
 pub view-last : (xs : List Frame) (f : Frame) → 0 < length xs → f ≡ get_or xs (length xs - 1) f → least (stack_view xs []) ≡ hole (frame_view f)
 view-last xs f some e = ap (λ z. least (stack_view z [])) (split_last xs f some e) ∙ ap least (view-push (take (length xs - 1) xs) f [])
 
-pub view-pop : (o : Option Frame) (xs ys : List Frame) (n : ℕ) → n ≡ length xs → xs ≡ ys ++ option_to_list o → MatchOption o (n ≡ 0) (λ f. Unit {0}) → MatchOption o ((stack_view xs [] ≡ []) × (stack_view ys [] ≡ [])) (λ f. stack_view xs [] ≡ frame_view f ∷ stack_view ys [])
+pub view-pop : (o : Option Frame) (xs ys : List Frame) (n : ℕ) → n ≡ length xs → xs ≡ ys ++ option_to_list o → MatchOption o (n ≡ 0) (λ f. Unit {0})
+    → MatchOption o ((stack_view xs [] ≡ []) × (stack_view ys [] ≡ [])) (λ f. stack_view xs [] ≡ frame_view f ∷ stack_view ys [])
 view-pop None [] [] n l e h = (refl, refl)
 view-pop None [] (y ∷ ys) n l e h = cc
 view-pop None (x ∷ xs) ys n l e h = absurd (omega arith)

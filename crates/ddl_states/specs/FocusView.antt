@@ -23,7 +23,8 @@ use Rattle.ddl_states.specs.declared.focus.BitsFocus as code_bits_focus
 use Rattle.ddl_states.specs.declared.focus.BitsFocus.TheVariants as bits
 use Rattle.ddl_tree.specs.View.{binding_view, item_view, alt_view}
 use Rattle.ddl_tree.specs.ViewModule.{con_view}
-use Rattle.ddl_states.specs.FrameView.{found_view, found_type_view, found_class_view, sort_view, head_view, layout_view, parted_view, start_view, part_start_view, repeat_view}
+use Rattle.ddl_states.specs.FrameView.{found_view, found_type_view, found_class_view, sort_view, head_view, layout_view, parted_view, start_view}
+use Rattle.ddl_states.specs.FrameView.{part_start_view, repeat_view}
 use Rattle.ddl_reader.specs.Frames.{Focus, Loop, Cases}
 use Rattle.ddl_reader.specs.Frames as m
 

@@ -38,7 +38,8 @@ pub fn with_binding(
     name: Name,
     value: Found,
 ) -> Result<Vec<Binding>, NoMemory>
-    ensures { IfOk result (λ all. map binding_view all.items ≡ map binding_view bindings.items ++ step_part.bound_to name (found_view value) ∷ []) }
+    ensures { IfOk result (λ all. map binding_view all.items ≡ map binding_view bindings.items
+        ++ step_part.bound_to name (found_view value) ∷ []) }
 {
     bindings.push(bound_to(name, value))?;
     Ok(bindings)
@@ -72,7 +73,8 @@ fn started(start: Start, value: Found) -> Item
 /// One more part of a block.
 #[tactic(auto, using(std::proofs::lemmas::List::map_push))]
 pub fn with_item(mut items: Vec<Item>, start: Start, value: Found) -> Result<Vec<Item>, NoMemory>
-    ensures { IfOk result (λ all. map item_view all.items ≡ map item_view items.items ++ step_list.started (start_view start) (found_view value) ∷ []) }
+    ensures { IfOk result (λ all. map item_view all.items ≡ map item_view items.items
+        ++ step_list.started (start_view start) (found_view value) ∷ []) }
 {
     items.push(started(start, value))?;
     Ok(items)
@@ -94,7 +96,8 @@ fn alt_of(pattern: Pat, body: Found) -> Alt
 /// One more alternative of a `case`.
 #[tactic(auto, using(std::proofs::lemmas::List::map_push))]
 pub fn with_alt(mut alts: Vec<Alt>, pattern: Pat, body: Found) -> Result<Vec<Alt>, NoMemory>
-    ensures { IfOk result (λ all. map alt_view all.items ≡ map alt_view alts.items ++ step_list.alt_of pattern (found_view body) ∷ []) }
+    ensures { IfOk result (λ all. map alt_view all.items ≡ map alt_view alts.items
+        ++ step_list.alt_of pattern (found_view body) ∷ []) }
 {
     alts.push(alt_of(pattern, body))?;
     Ok(alts)

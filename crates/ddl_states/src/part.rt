@@ -75,7 +75,8 @@ pub fn open(stack: &mut Stack, frame: Frame) -> Result<Focus, NoMemory>
 
 /// Opens the right side of `|`, in the form around it.
 pub fn open_union(stack: &mut Stack, around: Frame, left: FoundClass) -> Result<Focus, NoMemory>
-    ensures { Comes (m.in_union (found_class_view left) ∷ frame_view around ∷ forms stack.old, m.want_class) result stack.new }
+    ensures { Comes (m.in_union (found_class_view left) ∷ frame_view around ∷ forms stack.old, m.want_class) result
+        stack.new }
 {
     stack.push(around)?;
     stack.push(Frame::Class(ClassFrame::Union(left)))?;

@@ -33,7 +33,8 @@ impl Stack {
 
     /// Takes the innermost form away.
     pub fn pop(&mut self) -> Option<Frame>
-        ensures { MatchOption result ((forms self.old ≡ []) × (forms self.new ≡ [])) (λ frame. forms self.old ≡ frame_view frame ∷ forms self.new) }
+        ensures { MatchOption result ((forms self.old ≡ []) × (forms self.new ≡ [])) (λ frame.
+            forms self.old ≡ frame_view frame ∷ forms self.new) }
     {
         self.frames.pop()
     }

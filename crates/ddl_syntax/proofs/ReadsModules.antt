@@ -41,7 +41,8 @@ append_none : (xs : List Seen) → xs ++ [] ≡ xs
 append_none [] = refl
 append_none (x ∷ xs) = ap (λ ys. x ∷ ys) (append_none xs)
 
-next_too_nested : (used rest : List Seen) (z y : State) → reach used begun ≡ Some z → lowest z ≤ 200 → Leads rest z y → 200 < lowest y → NextTooNested 200 (kinds used) (kinds rest)
+next_too_nested : (used rest : List Seen) (z y : State) → reach used begun ≡ Some z → lowest z ≤ 200 → Leads rest z y → 200 < lowest y
+    → NextTooNested 200 (kinds used) (kinds rest)
 next_too_nested used [] z y way low leads high = leads
 next_too_nested used (x ∷ rest) z y way low leads high = too_nested 200 used x z y way low leads high
 
@@ -49,7 +50,8 @@ pub answers : (m : ℕ) (ts : List Token) (r : Result code_module.Module code_er
 answers m ts (Ok a) p =
     let z = p.0 in
     let way : reach (seen_in m ts) begun ≡ Some z = ap (λ xs. reach xs begun) (sym (seen_all m ts)) ∙ p.1.0 in
-    let all : parsed (seen_in m ts) ≡ Some (module_view a) = ap (λ xs. run xs begun) (sym (append_none (seen_in m ts))) ∙ run_reach (seen_in m ts) [] begun z way ∙ p.2 in
+    let all : parsed (seen_in m ts) ≡ Some (module_view a) = ap (λ xs. run xs begun) (sym (append_none (seen_in m ts)))
+    ∙ run_reach (seen_in m ts) [] begun z way ∙ p.2 in
     let it = reads_modules (seen_in m ts) (module_view a) all in
     let deep = depth_at_end (seen_in m ts) z (module_view a) way p.2 in
     let low = p.1.1 in
@@ -57,9 +59,16 @@ answers m ts (Ok a) p =
 answers m ts (Err (e.Unexpected k)) p =
     let z = p.1.0 in
     let within = begins_within 200 (take k (seen_in m ts)) z p.1.1.0 p.1.1.1 in
-    let stops = unexpected (take k (seen_in m ts)) (drop k (seen_in m ts)) z p.1.1.0 p.1.2 in
-    (p.0, subst (λ ks. BeginsWithin 200 ks) (kinds_taken m k ts) within, subst (λ ks. Unexpected (take k (kinds_of ts)) ks) (kinds_left m k ts) (subst (λ ks. Unexpected ks (kinds (drop k (seen_in m ts)))) (kinds_taken m k ts) stops))
+    let stops = unexpected (take k (seen_in m ts)) (drop k (seen_in m ts)) z p.1.1.0 p.1.2 in (
+      p.0,
+      subst (λ ks. BeginsWithin 200 ks) (kinds_taken m k ts) within,
+      subst (λ ks. Unexpected (take k (kinds_of ts)) ks) (kinds_left m k ts)
+          (subst (λ ks. Unexpected ks (kinds (drop k (seen_in m ts)))) (kinds_taken m k ts) stops),
+    )
 answers m ts (Err (e.TooNested k)) p =
-    let nested = next_too_nested (take k (seen_in m ts)) (drop k (seen_in m ts)) p.1.0 p.1.1 p.1.2.0 p.1.2.1 p.1.3 p.1.4 in
-    (p.0, subst (λ ks. NextTooNested 200 (take k (kinds_of ts)) ks) (kinds_left m k ts) (subst (λ ks. NextTooNested 200 ks (kinds (drop k (seen_in m ts)))) (kinds_taken m k ts) nested))
+    let nested = next_too_nested (take k (seen_in m ts)) (drop k (seen_in m ts)) p.1.0 p.1.1 p.1.2.0 p.1.2.1 p.1.3 p.1.4 in (
+      p.0,
+      subst (λ ks. NextTooNested 200 (take k (kinds_of ts)) ks) (kinds_left m k ts)
+          (subst (λ ks. NextTooNested 200 ks (kinds (drop k (seen_in m ts)))) (kinds_taken m k ts) nested),
+    )
 answers m ts (Err e.NoMemory) p = tt

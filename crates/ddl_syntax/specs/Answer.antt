@@ -31,7 +31,8 @@ NextTooNested d used (x ∷ rest) = TooNested d used x
 
 -- the module within d that has these tokens at these places; or the first token where none goes on, or none within d
 abbrev pub Answers : ℕ → ℕ → List Token → Result code_module.Module code_error.SyntaxError → Type 0
-Answers d m ts (Ok a) = IsModule (module_view a) × (print_module (module_view a) ≡ kinds_of ts) × StandsAt (module_view a) (places_of m ts) × (module_depth (module_view a) ≤ d)
+Answers d m ts (Ok a) = IsModule (module_view a) × (print_module (module_view a) ≡ kinds_of ts) × StandsAt (module_view a) (places_of m ts)
+    × (module_depth (module_view a) ≤ d)
 Answers d m ts (Err (e.Unexpected k)) = (k ≤ length ts) × BeginsWithin d (take k (kinds_of ts)) × Unexpected (take k (kinds_of ts)) (drop k (kinds_of ts))
 Answers d m ts (Err (e.TooNested k)) = (k < length ts) × NextTooNested d (take k (kinds_of ts)) (drop k (kinds_of ts))
 Answers d m ts (Err e.NoMemory) = Unit {0}

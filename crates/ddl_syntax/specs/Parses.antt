@@ -53,5 +53,6 @@ Completes k z (Err e.NoMemory) = Unit {0}
 abbrev pub Parses : ℕ → List Token → Result code_module.Module code_error.SyntaxError → Type 0
 Parses m ts (Ok a) = (z : State) × Stands (seen_in m ts) (length ts) z × (finish z.1 z.0 ≡ Some (module_view a))
 Parses m ts (Err (e.Unexpected k)) = (k ≤ length ts) × ((z : State) × Stands (seen_in m ts) k z × IsStuck z (drop k (seen_in m ts)))
-Parses m ts (Err (e.TooNested k)) = (k < length ts) × ((z : State) × (y : State) × Stands (seen_in m ts) k z × Leads (drop k (seen_in m ts)) z y × (200 < lowest y))
+Parses m ts (Err (e.TooNested k)) = (k < length ts) × ((z : State) × (y : State) × Stands (seen_in m ts) k z × Leads (drop k (seen_in m ts)) z y
+    × (200 < lowest y))
 Parses m ts (Err e.NoMemory) = Unit {0}

@@ -1,7 +1,8 @@
 ghost use Rattle.std.specs.Prelude.{◌≤◌, ◌∷◌};
 ghost use Rattle.ddl_reader.specs.Depths.{around};
 ghost use Rattle.ddl_states.specs.Heights.{height};
-ghost use Rattle.ddl_states.specs.FrameView.{type_frame_view, class_frame_view, decl_frame_view, found_type_view, found_class_view};
+ghost use Rattle.ddl_states.specs.FrameView.{type_frame_view, class_frame_view, decl_frame_view, found_type_view};
+ghost use Rattle.ddl_states.specs.FrameView.{found_class_view};
 ghost use Rattle.ddl_states.specs.Gives.{Gives};
 ghost use Rattle.ddl_states.specs.StackView.{forms};
 ghost use Rattle.ddl_reader.specs.Step as machine;
@@ -28,7 +29,8 @@ fn after_type_part(
     part: FoundType,
 ) -> Result<Focus, Refusal>
     requires { height (forms stack.old) (around (type_frame_view frame) part.deep) ≤ 400 }
-    ensures { Gives (machine.step_type (type_frame_view frame ∷ forms stack.old) (found_type_view part) kind.now at) result stack.new }
+    ensures { Gives (machine.step_type (type_frame_view frame ∷ forms stack.old) (found_type_view part) kind.now at)
+        result stack.new }
 {
     match frame {
         TypeFrame::Bracket(from) => type_step::after_element(alloc, stack, kind, at, from, part),
@@ -51,7 +53,8 @@ fn after_type_decl(
     at: Span,
     part: FoundType,
 ) -> Result<Focus, Refusal>
-    ensures { Gives (machine.step_type (decl_frame_view frame ∷ forms stack.old) (found_type_view part) kind.now at) result stack.new }
+    ensures { Gives (machine.step_type (decl_frame_view frame ∷ forms stack.old) (found_type_view part) kind.now at)
+        result stack.new }
 {
     match frame {
         DeclFrame::Param {
@@ -100,7 +103,8 @@ fn after_class_part(
     part: FoundClass,
 ) -> Result<Focus, Refusal>
     requires { height (forms stack.old) (around (class_frame_view frame) part.deep) ≤ 400 }
-    ensures { Gives (machine.step_class (class_frame_view frame ∷ forms stack.old) (found_class_view part) kind.now at) result stack.new }
+    ensures { Gives (machine.step_class (class_frame_view frame ∷ forms stack.old) (found_class_view part) kind.now at)
+        result stack.new }
 {
     match frame {
         ClassFrame::Grouped(from) => class_step::after_grouped(alloc, stack, kind, at, from, part),
@@ -118,7 +122,8 @@ fn after_class_decl(
     at: Span,
     part: FoundClass,
 ) -> Result<Focus, Refusal>
-    ensures { Gives (machine.step_class (decl_frame_view frame ∷ forms stack.old) (found_class_view part) kind.now at) result stack.new }
+    ensures { Gives (machine.step_class (decl_frame_view frame ∷ forms stack.old) (found_class_view part) kind.now at)
+        result stack.new }
 {
     match frame {
         DeclFrame::ClassBody { from, name } => {

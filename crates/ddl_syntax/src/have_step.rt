@@ -4,7 +4,8 @@ ghost use Rattle.ddl_tree.specs.View.{bound_view};
 ghost use Rattle.ddl_reader.specs.Frames as m;
 ghost use Rattle.ddl_reader.specs.Depths.{around};
 ghost use Rattle.ddl_states.specs.Heights.{height};
-ghost use Rattle.ddl_states.specs.FrameView.{frame_view, decl_frame_view, inner_frame_view, list_frame_view, last_frame_view, found_view, repeat_view};
+ghost use Rattle.ddl_states.specs.FrameView.{frame_view, decl_frame_view, inner_frame_view, list_frame_view};
+ghost use Rattle.ddl_states.specs.FrameView.{last_frame_view, found_view, repeat_view};
 ghost use Rattle.ddl_states.specs.Gives.{Gives};
 ghost use Rattle.ddl_states.specs.StackView.{forms};
 ghost use Rattle.ddl_reader.specs.Step as step;
@@ -43,7 +44,8 @@ fn pass_inner(
     part: Found,
 ) -> Result<Focus, Refusal>
     requires { around (inner_frame_view frame) part.deep ≤ 400 }
-    ensures { Gives (step.passes (inner_frame_view frame) kind.now at (found_view part) (forms stack.old)) result stack.new }
+    ensures { Gives (step.passes (inner_frame_view frame) kind.now at (found_view part) (forms stack.old)) result
+        stack.new }
 {
     match frame {
         InnerFrame::If(from) => after_condition(stack, kind, from, part),
@@ -76,7 +78,8 @@ fn pass_list(
     part: Found,
 ) -> Result<Focus, Refusal>
     requires { around (list_frame_view frame) part.deep ≤ 400 }
-    ensures { Gives (step.passes (list_frame_view frame) kind.now at (found_view part) (forms stack.old)) result stack.new }
+    ensures { Gives (step.passes (list_frame_view frame) kind.now at (found_view part) (forms stack.old)) result
+        stack.new }
 {
     match frame {
         ListFrame::Array {
@@ -143,7 +146,8 @@ fn pass_decl(
     at: Span,
     part: Found,
 ) -> Result<Focus, Refusal>
-    ensures { Gives (step.passes (decl_frame_view frame) kind.now at (found_view part) (forms stack.old)) result stack.new }
+    ensures { Gives (step.passes (decl_frame_view frame) kind.now at (found_view part) (forms stack.old)) result
+        stack.new }
 {
     match frame {
         DeclFrame::Body { head, result, deep } => {
@@ -182,7 +186,8 @@ fn pass(
 /// `Many` with what was its last part as the bound.
 #[tactic(auto, using(ddl_tree::proofs::Layers::layers))]
 fn with_bound(repeat: Repeat, bound: Bound, deep: u32, part: Found) -> Option<LastFrame>
-    ensures { option_map last_frame_view result ≡ step_expr.with_argument (m.in_many (repeat_view repeat) (bound_view bound) deep) (found_view part) }
+    ensures { option_map last_frame_view result
+        ≡ step_expr.with_argument (m.in_many (repeat_view repeat) (bound_view bound) deep) (found_view part) }
 {
     match bound {
         Bound::Free => Some(LastFrame::Many {
@@ -197,7 +202,8 @@ fn with_bound(repeat: Repeat, bound: Bound, deep: u32, part: Found) -> Option<La
 
 /// The form with one more argument, or with what was its last part as a bound.
 fn with_argument(frame: LastFrame, part: Found) -> Result<Option<LastFrame>, NoMemory>
-    ensures { IfOk result (λ next. option_map last_frame_view next ≡ step_expr.with_argument (last_frame_view frame) (found_view part)) }
+    ensures { IfOk result (λ next. option_map last_frame_view next
+        ≡ step_expr.with_argument (last_frame_view frame) (found_view part)) }
 {
     match frame {
         LastFrame::CallGrammar { name, args, deep } => {

@@ -1,5 +1,7 @@
 ghost use Rattle.std.specs.Prelude.{◌≤◌};
-ghost use Rattle.ddl_states.specs.FocusView.{focus_view, type_focus_view, class_focus_view, loop_focus_view, field_focus_view, list_focus_view, case_focus_view, head_focus_view, bits_focus_view};
+ghost use Rattle.ddl_states.specs.FocusView.{focus_view, type_focus_view, class_focus_view, loop_focus_view};
+ghost use Rattle.ddl_states.specs.FocusView.{field_focus_view, list_focus_view, case_focus_view, head_focus_view};
+ghost use Rattle.ddl_states.specs.FocusView.{bits_focus_view};
 ghost use Rattle.ddl_states.specs.Gives.{Gives};
 ghost use Rattle.ddl_states.specs.Heights.{coming, height};
 ghost use Rattle.ddl_states.specs.StackView.{forms};

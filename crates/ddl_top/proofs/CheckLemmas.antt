@@ -27,9 +27,11 @@ use Rattle.ddl_top.specs.declared.status.Status.TheVariants as status_is
 
 check_of_refusal : (root : List ℕ) (old new : FilesState) (refusal : Refusal) (status : Status) (lines : List (List ℕ)) → IsRefused old new root refusal
     → IsRefusalAnswer refusal status lines → IsCheckAnswer root old new status lines
-check_of_refusal root old new (refused.Missing file) status lines h k = subst (λ s. IsCheckAnswer root old new s lines) (sym k.0) (refused.Missing file, h, (refl, k.1))
+check_of_refusal root old new (refused.Missing file) status lines h k =
+    subst (λ s. IsCheckAnswer root old new s lines) (sym k.0) (refused.Missing file, h, (refl, k.1))
 check_of_refusal root old new refused.ReadFault status lines h k = subst (λ s. IsCheckAnswer root old new s lines) (sym k.0) (refused.ReadFault, h, (refl, k.1))
-check_of_refusal root old new (refused.Refused told) status lines h k = subst (λ s. IsCheckAnswer root old new s lines) (sym k.0) (refused.Refused told, h, (refl, k.1))
+check_of_refusal root old new (refused.Refused told) status lines h k =
+    subst (λ s. IsCheckAnswer root old new s lines) (sym k.0) (refused.Refused told, h, (refl, k.1))
 check_of_refusal root old new refused.Unbuilt status lines h k = subst (λ s. IsCheckAnswer root old new s lines) (sym k.0) (refused.Unbuilt, h, (refl, k.1))
 check_of_refusal root old new refused.NoMemory status lines h k = absurd k
 
@@ -39,7 +41,8 @@ IfOk-check_refused root old new refusal (Ok a) h k = check_of_refusal root old n
 IfOk-check_refused root old new refusal (Err e) h k = k
 
 pub IfOk-check : (root : List ℕ) (old new : FilesState) (us : List SourceUnit) (r : Result Answer NoMemory) → FindsModules old new root us
-    → IfOk r (λ a. (a.status ≡ status_is.Parses) × (a.lines.items ≡ closing_only (closing_is.Declarations (declarations us)))) → IfOk r (λ a. IsCheckAnswer root old new a.status a.lines.items)
+    → IfOk r (λ a. (a.status ≡ status_is.Parses) × (a.lines.items ≡ closing_only (closing_is.Declarations (declarations us))))
+    → IfOk r (λ a. IsCheckAnswer root old new a.status a.lines.items)
 IfOk-check root old new us (Ok a) found h = subst (λ s. IsCheckAnswer root old new s a.lines.items) (sym h.0) (found.0, us, found.1, h.1)
 IfOk-check root old new us (Err e) found h = h
 
@@ -83,7 +86,8 @@ pub few : (us : List SourceUnit) → HaveBindings us → declarations us ≤ 655
 few us h = few_after us (no_more (one_too_many (loaded us)) (flat_map declared_twice (loaded us)) (findings_from (loaded us) 0 (loaded us)) h)
 
 -- the declarations of the modules before one, and its own, are among all
-pub all_before : (us : List SourceUnit) (i : ℕ) (u : SourceUnit) → i < length us → u ≡ get_or us i u → length (all_decls (take i us)) + length u.tree.decls.items ≤ length (all_decls us)
+pub all_before : (us : List SourceUnit) (i : ℕ) (u : SourceUnit) → i < length us → u ≡ get_or us i u
+    → length (all_decls (take i us)) + length u.tree.decls.items ≤ length (all_decls us)
 all_before us i u within same =
     let h = length-flat_map-take (λ (x : SourceUnit). x.tree.decls.items) us i u within in
     rw (sym same) at h

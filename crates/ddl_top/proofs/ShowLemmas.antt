@@ -21,7 +21,8 @@ IfOk-show root old new tree (Ok a) has h = subst (λ s. IsShowAnswer root old ne
 IfOk-show root old new tree (Err e) has h = h
 
 -- a module that is refused
-pub IfOk-unshown : (root : List ℕ) (old new : FilesState) (reason : Reason) (r : Result Answer NoMemory) → IsUnshown old new (file_of root) (module_name root) reason
+pub IfOk-unshown : (root : List ℕ) (old new : FilesState) (reason : Reason) (r : Result Answer NoMemory)
+    → IsUnshown old new (file_of root) (module_name root) reason
     → IfOk r (λ a. (a.status ≡ status_is.Refused) × (a.lines.items ≡ reason_lines reason)) → IfOk r (λ a. IsShowAnswer root old new a.status a.lines.items)
 IfOk-unshown root old new reason (Ok a) unshown h = subst (λ s. IsShowAnswer root old new s a.lines.items) (sym h.0) (reason, unshown, h.1)
 IfOk-unshown root old new reason (Err e) unshown h = h

@@ -16,7 +16,8 @@ IsLong old new file name r = (n : ℕ) × (new.told file ≡ Some n) × (2 ^ 22 
 
 -- its text is wrong
 abbrev pub HasWrongText : FilesState → List ℕ → List ℕ → Reason → Type 0
-HasWrongText files file name r = (bytes : List ℕ) × (error : SourceError) × IsFile files file bytes × (length bytes ≤ 2 ^ 22) × IsWrong bytes error × IsSourceReason name error r
+HasWrongText files file name r = (bytes : List ℕ) × (error : SourceError) × IsFile files file bytes × (length bytes ≤ 2 ^ 22) × IsWrong bytes error
+    × IsSourceReason name error r
 
 -- why the module of this name and file is not shown
 abbrev pub IsUnshown : FilesState → FilesState → List ℕ → List ℕ → Reason → Type 0

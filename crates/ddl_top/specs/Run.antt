@@ -64,7 +64,8 @@ IsDenoted root input files status lines =
 -- the specification is accepted, and the input's told length is above 2^30
 abbrev pub IsLarge : List ℕ → List ℕ → FilesState → List (List ℕ) → Type 0
 IsLarge root input files lines =
-    (names : List (List ℕ)) × (spec : Declared) × (n : ℕ) × IsAccepted files root names spec × (files.told input ≡ Some n) × (2 ^ 30 < n) × (lines ≡ closing_only closing_is.Large)
+    (names : List (List ℕ)) × (spec : Declared) × (n : ℕ) × IsAccepted files root names spec × (files.told input ≡ Some n) × (2 ^ 30 < n)
+    × (lines ≡ closing_only closing_is.Large)
 
 -- the specification is accepted, and its input is not there, or a call of the files failed
 abbrev pub IsWithoutInput : List ℕ → List ℕ → FilesState → FilesState → List (List ℕ) → Type 0
@@ -72,7 +73,8 @@ IsWithoutInput root input old new lines =
     (names : List (List ℕ)) × (spec : Declared) × IsAccepted new root names spec × IsAbsent old new input × (lines ≡ closing_only (closing_is.Missing input))
 
 abbrev pub IsUnread : List ℕ → FilesState → FilesState → List (List ℕ) → Type 0
-IsUnread root old new lines = (names : List (List ℕ)) × (spec : Declared) × IsAccepted new root names spec × IsFailed old new × (lines ≡ closing_only closing_is.Read)
+IsUnread root old new lines = (names : List (List ℕ)) × (spec : Declared) × IsAccepted new root names spec × IsFailed old new
+    × (lines ≡ closing_only closing_is.Read)
 
 -- what `run ROOT INPUT` answers, with which lines: each status that comes, and its cause
 abbrev pub IsRunAnswer : List ℕ → List ℕ → FilesState → FilesState → Status → List (List ℕ) → Type 0

@@ -11,7 +11,8 @@ pub data Command : Type 0 where
 -- `run MODULE INPUT`, `check MODULE` and `show MODULE`
 abbrev pub command_of : List (List ℕ) → Option Command
 command_of (word ∷ root ∷ input ∷ []) = if bytes_eq word (codes "run") then Some (run_of root input) else None
-command_of (word ∷ root ∷ []) = if bytes_eq word (codes "check") then Some (check_of root) else if bytes_eq word (codes "show") then Some (show_of root) else None
+command_of (word ∷ root ∷ []) = if bytes_eq word (codes "check") then Some (check_of root) else if bytes_eq word (codes "show") then Some (show_of root) else
+    None
 command_of _ = None
 
 -- the file of a module that is shown

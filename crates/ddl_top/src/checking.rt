@@ -42,7 +42,8 @@ fn declarations(units: &[SourceUnit]) -> u64
 /// The answer of modules that are accepted.
 fn count_answer(alloc: Global, units: &[SourceUnit]) -> Result<Answer, NoMemory>
     requires { declarations units.now ≤ 65535 }
-    ensures { IfOk result (λ a. (a.status ≡ Status.Parses) × (a.lines.items ≡ closing_only (Closing.Declarations (declarations units.now)))) }
+    ensures { IfOk result (λ a. (a.status ≡ Status.Parses)
+        × (a.lines.items ≡ closing_only (Closing.Declarations (declarations units.now)))) }
 {
     let number = declarations(units);
     closing_answer(alloc, Status::Parses, &Closing::Declarations { number })

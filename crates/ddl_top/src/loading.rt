@@ -24,7 +24,8 @@ pub(crate) enum Loaded {
 /// What a module's text is.
 fn text_of(alloc: Global, name: &[u8], text: &[u8]) -> Result<Loaded, NoMemory>
     requires { length text.now ≤ 2 ^ 22 }
-    ensures { IfOk result (λ loaded. (old : FilesState) (new : FilesState) (file : List ℕ) → IsFile new file text.now → IsLoaded old new file name.now loaded) }
+    ensures { IfOk result (λ loaded. (old : FilesState) (new : FilesState) (file : List ℕ) → IsFile new file text.now
+        → IsLoaded old new file name.now loaded) }
 {
     match tree_of(alloc, 0, text) {
         Ok(tree) => Ok(Loaded::Tree(tree)),

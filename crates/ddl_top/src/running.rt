@@ -48,7 +48,8 @@ fn input_answer<F: Files>(
     requires simple { IsSimple (view spec.now.body) 0 }
     ensures later { Later (F.state files.old) (F.state files.new) }
     ensures only { TouchesOnly input.now (F.state files.old) (F.state files.new) }
-    ensures answer { IfOk result (λ a. (names : List (List ℕ)) → IsAccepted (F.state files.old) root.now names (declared_view spec.now)
+    ensures answer { IfOk result (λ a. (names : List (List ℕ))
+        → IsAccepted (F.state files.old) root.now names (declared_view spec.now)
         → IsInputAnswer root.now input.now (F.state files.old) (F.state files.new) a.status a.lines.items) }
 {
     match read_whole(alloc, files, input, MOST_INPUT)? {
@@ -72,7 +73,8 @@ fn spec_answer<F: Files>(
     requires simple { IsSimple (view spec.body) 0 }
     ensures later { Later (F.state files.old) (F.state files.new) }
     ensures only { TouchesOnly input.now (F.state files.old) (F.state files.new) }
-    ensures answer { IfOk result (λ a. (names : List (List ℕ)) → IsAccepted (F.state files.old) root.now names (declared_view spec)
+    ensures answer { IfOk result (λ a. (names : List (List ℕ))
+        → IsAccepted (F.state files.old) root.now names (declared_view spec)
         → IsInputAnswer root.now input.now (F.state files.old) (F.state files.new) a.status a.lines.items) }
 {
     input_answer(alloc, files, root, input, &spec)
@@ -88,7 +90,8 @@ fn units_answer<F: Files>(
 ) -> Result<Answer, NoMemory>
     ensures later { Later (F.state files.old) (F.state files.new) }
     ensures order { TouchesInput units.now input.now (F.state files.old) (F.state files.new) }
-    ensures answer { IfOk result (λ a. (names : List (List ℕ)) → AreBoundModules (F.state files.old) root.now names units.now
+    ensures answer { IfOk result (λ a. (names : List (List ℕ))
+        → AreBoundModules (F.state files.old) root.now names units.now
         → IsUnitsAnswer root.now input.now (F.state files.old) (F.state files.new) a.status a.lines.items) }
 {
     match specification(alloc, units)? {

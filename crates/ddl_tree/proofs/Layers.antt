@@ -6,12 +6,15 @@ use Rattle.ddl_tree.specs.declared.class.Cls.{Cls, Cls-F, out-Cls, roll-Cls, rol
 use Rattle.ddl_tree.specs.declared.class.Cls as classes
 use Rattle.ddl_tree.specs.declared.expr.Expr.{Expr, Expr-F, out-Expr, roll-Expr, roll-out-Expr, the_lemmas}
 use Rattle.ddl_tree.specs.declared.expr.Bound.{Bound, Bound-F, out-Bound, roll-Bound, roll-out-Bound, fold-roll-Bound}
-use Rattle.ddl_tree.specs.declared.expr.Alternatives.{Alternatives, Alternatives-F, out-Alternatives, roll-Alternatives, roll-out-Alternatives, fold-roll-Alternatives}
+use Rattle.ddl_tree.specs.declared.expr.Alternatives.{Alternatives, Alternatives-F, out-Alternatives, roll-Alternatives, roll-out-Alternatives}
+use Rattle.ddl_tree.specs.declared.expr.Alternatives.{fold-roll-Alternatives}
 use Rattle.ddl_tree.specs.declared.expr.Item.{Item, Item-F, out-Item, roll-Item, roll-out-Item, fold-roll-Item}
 use Rattle.ddl_tree.specs.declared.expr.Alt.{Alt, out-Alt}
 use Rattle.ddl_tree.specs.declared.expr.Binding.{Binding, out-Binding}
 use Rattle.ddl_tree.specs.ExprTree as ex
-use Rattle.ddl_tree.specs.View.{type_view, type_layer, class_view, class_layer, view, view_layer, bound_view, bound_layer, alternatives_view, alternatives_layer, item_view, item_layer, alt_view, alt_layer, binding_view, binding_layer, expr_step, bound_step, alternatives_step, item_step, alt_step, binding_step}
+use Rattle.ddl_tree.specs.View.{type_view, type_layer, class_view, class_layer, view, view_layer, bound_view, bound_layer, alternatives_view}
+use Rattle.ddl_tree.specs.View.{alternatives_layer, item_view, item_layer, alt_view, alt_layer, binding_view, binding_layer, expr_step, bound_step}
+use Rattle.ddl_tree.specs.View.{alternatives_step, item_step, alt_step, binding_step}
 
 type_view_roll : (l : TypeExpr-F TypeExpr) → type_view (roll-TypeExpr l) ≡ type_layer l
 unfolding type_view
@@ -85,29 +88,40 @@ view_out e = ap view (sym (roll-out-Expr e)) ∙ view_roll (out-Expr e)
 
 bound_view_roll : (l : Bound-F Alternatives Bound Expr Item Alt Binding) → bound_view (roll-Bound l) ≡ bound_layer l
 unfolding view bound_view alternatives_view item_view alt_view binding_view
-bound_view_roll Bound-F.Free = fold-roll-Bound ex.Alternatives ex.Bound ex.Expr ex.Item ex.Alt ex.Binding alternatives_step bound_step expr_step item_step alt_step binding_step Bound-F.Free
-bound_view_roll (Bound-F.Exactly a) = fold-roll-Bound ex.Alternatives ex.Bound ex.Expr ex.Item ex.Alt ex.Binding alternatives_step bound_step expr_step item_step alt_step binding_step (Bound-F.Exactly a)
-bound_view_roll (Bound-F.AtLeast a s) = fold-roll-Bound ex.Alternatives ex.Bound ex.Expr ex.Item ex.Alt ex.Binding alternatives_step bound_step expr_step item_step alt_step binding_step (Bound-F.AtLeast a s)
-bound_view_roll (Bound-F.AtMost a s) = fold-roll-Bound ex.Alternatives ex.Bound ex.Expr ex.Item ex.Alt ex.Binding alternatives_step bound_step expr_step item_step alt_step binding_step (Bound-F.AtMost a s)
-bound_view_roll (Bound-F.Between a b s) = fold-roll-Bound ex.Alternatives ex.Bound ex.Expr ex.Item ex.Alt ex.Binding alternatives_step bound_step expr_step item_step alt_step binding_step (Bound-F.Between a b s)
+bound_view_roll Bound-F.Free = fold-roll-Bound ex.Alternatives ex.Bound ex.Expr ex.Item ex.Alt ex.Binding alternatives_step bound_step expr_step item_step
+    alt_step binding_step Bound-F.Free
+bound_view_roll (Bound-F.Exactly a) = fold-roll-Bound ex.Alternatives ex.Bound ex.Expr ex.Item ex.Alt ex.Binding alternatives_step bound_step expr_step
+    item_step alt_step binding_step (Bound-F.Exactly a)
+bound_view_roll (Bound-F.AtLeast a s) = fold-roll-Bound ex.Alternatives ex.Bound ex.Expr ex.Item ex.Alt ex.Binding alternatives_step bound_step expr_step
+    item_step alt_step binding_step (Bound-F.AtLeast a s)
+bound_view_roll (Bound-F.AtMost a s) = fold-roll-Bound ex.Alternatives ex.Bound ex.Expr ex.Item ex.Alt ex.Binding alternatives_step bound_step expr_step
+    item_step alt_step binding_step (Bound-F.AtMost a s)
+bound_view_roll (Bound-F.Between a b s) = fold-roll-Bound ex.Alternatives ex.Bound ex.Expr ex.Item ex.Alt ex.Binding alternatives_step bound_step expr_step
+    item_step alt_step binding_step (Bound-F.Between a b s)
 
 pub bound_view_out : (b : Bound) → bound_view b ≡ bound_layer (out-Bound b)
 bound_view_out b = ap bound_view (sym (roll-out-Bound b)) ∙ bound_view_roll (out-Bound b)
 
 alternatives_view_roll : (l : Alternatives-F Alternatives Bound Expr Item Alt Binding) → alternatives_view (roll-Alternatives l) ≡ alternatives_layer l
 unfolding view bound_view alternatives_view item_view alt_view binding_view
-alternatives_view_roll (Alternatives-F.WithTags bs) = fold-roll-Alternatives ex.Alternatives ex.Bound ex.Expr ex.Item ex.Alt ex.Binding alternatives_step bound_step expr_step item_step alt_step binding_step (Alternatives-F.WithTags bs)
-alternatives_view_roll (Alternatives-F.Untagged xs) = fold-roll-Alternatives ex.Alternatives ex.Bound ex.Expr ex.Item ex.Alt ex.Binding alternatives_step bound_step expr_step item_step alt_step binding_step (Alternatives-F.Untagged xs)
+alternatives_view_roll (Alternatives-F.WithTags bs) = fold-roll-Alternatives ex.Alternatives ex.Bound ex.Expr ex.Item ex.Alt ex.Binding alternatives_step
+    bound_step expr_step item_step alt_step binding_step (Alternatives-F.WithTags bs)
+alternatives_view_roll (Alternatives-F.Untagged xs) = fold-roll-Alternatives ex.Alternatives ex.Bound ex.Expr ex.Item ex.Alt ex.Binding alternatives_step
+    bound_step expr_step item_step alt_step binding_step (Alternatives-F.Untagged xs)
 
 pub alternatives_view_out : (a : Alternatives) → alternatives_view a ≡ alternatives_layer (out-Alternatives a)
 alternatives_view_out a = ap alternatives_view (sym (roll-out-Alternatives a)) ∙ alternatives_view_roll (out-Alternatives a)
 
 item_view_roll : (l : Item-F Alternatives Bound Expr Item Alt Binding) → item_view (roll-Item l) ≡ item_layer l
 unfolding view bound_view alternatives_view item_view alt_view binding_view
-item_view_roll (Item-F.Result a s) = fold-roll-Item ex.Alternatives ex.Bound ex.Expr ex.Item ex.Alt ex.Binding alternatives_step bound_step expr_step item_step alt_step binding_step (Item-F.Result a s)
-item_view_roll (Item-F.Let x a s) = fold-roll-Item ex.Alternatives ex.Bound ex.Expr ex.Item ex.Alt ex.Binding alternatives_step bound_step expr_step item_step alt_step binding_step (Item-F.Let x a s)
-item_view_roll (Item-F.Field x a s) = fold-roll-Item ex.Alternatives ex.Bound ex.Expr ex.Item ex.Alt ex.Binding alternatives_step bound_step expr_step item_step alt_step binding_step (Item-F.Field x a s)
-item_view_roll (Item-F.Plain a) = fold-roll-Item ex.Alternatives ex.Bound ex.Expr ex.Item ex.Alt ex.Binding alternatives_step bound_step expr_step item_step alt_step binding_step (Item-F.Plain a)
+item_view_roll (Item-F.Result a s) = fold-roll-Item ex.Alternatives ex.Bound ex.Expr ex.Item ex.Alt ex.Binding alternatives_step bound_step expr_step item_step
+    alt_step binding_step (Item-F.Result a s)
+item_view_roll (Item-F.Let x a s) = fold-roll-Item ex.Alternatives ex.Bound ex.Expr ex.Item ex.Alt ex.Binding alternatives_step bound_step expr_step item_step
+    alt_step binding_step (Item-F.Let x a s)
+item_view_roll (Item-F.Field x a s) = fold-roll-Item ex.Alternatives ex.Bound ex.Expr ex.Item ex.Alt ex.Binding alternatives_step bound_step expr_step item_step
+    alt_step binding_step (Item-F.Field x a s)
+item_view_roll (Item-F.Plain a) = fold-roll-Item ex.Alternatives ex.Bound ex.Expr ex.Item ex.Alt ex.Binding alternatives_step bound_step expr_step item_step
+    alt_step binding_step (Item-F.Plain a)
 
 pub item_view_out : (i : Item) → item_view i ≡ item_layer (out-Item i)
 item_view_out i = ap item_view (sym (roll-out-Item i)) ∙ item_view_roll (out-Item i)
@@ -120,4 +134,16 @@ pub binding_view_out : (b : Binding) → binding_view b ≡ binding_layer (out-B
 unfolding view bound_view alternatives_view item_view alt_view binding_view
 binding_view_out b = search (rules, the_lemmas)
 
-pub ruleset layers = (view_out, bound_view_out, alternatives_view_out, item_view_out, alt_view_out, binding_view_out, type_view_out, class_view_out, the_lemmas, types.the_lemmas, classes.the_lemmas)
+pub ruleset layers = (
+  view_out,
+  bound_view_out,
+  alternatives_view_out,
+  item_view_out,
+  alt_view_out,
+  binding_view_out,
+  type_view_out,
+  class_view_out,
+  the_lemmas,
+  types.the_lemmas,
+  classes.the_lemmas,
+)

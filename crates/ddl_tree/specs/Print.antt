@@ -160,7 +160,8 @@ abbrev mutual
   print (ex.Infix o a b s) r = print a (infix_token o ∷ print b r)
   print (ex.Pure a s) r = k.Mark m.Caret ∷ print a r
   print (ex.If c a b s) r = k.Word w.If ∷ print c (k.Word w.Then ∷ print a (k.Word w.Else ∷ print b r))
-  print (ex.For x i ns l b s) r = k.Word w.For ∷ k.Mark m.OpenParen ∷ lower x ∷ k.Mark m.Equals ∷ print i (k.Mark m.Semicolon ∷ print_names ns (print l (k.Mark m.CloseParen ∷ print b r)))
+  print (ex.For x i ns l b s) r = k.Word w.For ∷ k.Mark m.OpenParen ∷ lower x ∷ k.Mark m.Equals
+      ∷ print i (k.Mark m.Semicolon ∷ print_names ns (print l (k.Mark m.CloseParen ∷ print b r)))
   print (ex.Map ns l b s) r = k.Word w.Map ∷ k.Mark m.OpenParen ∷ print_names ns (print l (k.Mark m.CloseParen ∷ print b r))
   print (ex.Is a p s) r = print a (k.Word w.Is ∷ shape_token p ∷ r)
   print (ex.Prefix o a s) r = prefix_token o ∷ print a r

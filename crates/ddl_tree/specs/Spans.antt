@@ -203,7 +203,8 @@ abbrev mutual
 
   pub place_bindings : ex.Bindings → Places → ex.Bindings × Places
   place_bindings ex.no_bindings p = (ex.no_bindings, p)
-  place_bindings (ex.a_binding n a s bs) p = let x = place a (after (after p)) in let y = place_more_bindings bs x.1 in (ex.a_binding (place_name n p) x.0 (between p x.1) y.0, y.1)
+  place_bindings (ex.a_binding n a s bs) p = let x = place a (after (after p)) in let y =
+      place_more_bindings bs x.1 in (ex.a_binding (place_name n p) x.0 (between p x.1) y.0, y.1)
 
   pub place_more_bindings : ex.Bindings → Places → ex.Bindings × Places
   place_more_bindings ex.no_bindings p = (ex.no_bindings, p)

@@ -9,8 +9,10 @@ abbrev pub place_param : mo.Param → Places → mo.Param × Places
 place_param (mo.Upper n) p = (mo.Upper (place_name n p), after p)
 place_param (mo.Lower n) p = (mo.Lower (place_name n p), after p)
 place_param (mo.Class n) p = (mo.Class (place_name n p), after p)
-place_param (mo.TypedUpper n t s) p = let x = place_type t (after (after (after p))) in let q = after x.1 in (mo.TypedUpper (place_name n (after p)) x.0 (between p q), q)
-place_param (mo.TypedLower n t s) p = let x = place_type t (after (after (after p))) in let q = after x.1 in (mo.TypedLower (place_name n (after p)) x.0 (between p q), q)
+place_param (mo.TypedUpper n t s) p = let x = place_type t (after (after (after p))) in let q =
+    after x.1 in (mo.TypedUpper (place_name n (after p)) x.0 (between p q), q)
+place_param (mo.TypedLower n t s) p = let x = place_type t (after (after (after p))) in let q =
+    after x.1 in (mo.TypedLower (place_name n (after p)) x.0 (between p q), q)
 
 abbrev pub place_params : List mo.Param → Places → List mo.Param × Places
 place_params [] p = ([], p)

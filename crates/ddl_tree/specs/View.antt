@@ -157,7 +157,8 @@ unfoldable pub bound_view : Bound → ex.Bound
 bound_view = fold-Bound ex.Alternatives ex.Bound ex.Expr ex.Item ex.Alt ex.Binding alternatives_step bound_step expr_step item_step alt_step binding_step
 
 unfoldable pub alternatives_view : Alternatives → ex.Alternatives
-alternatives_view = fold-Alternatives ex.Alternatives ex.Bound ex.Expr ex.Item ex.Alt ex.Binding alternatives_step bound_step expr_step item_step alt_step binding_step
+alternatives_view = fold-Alternatives ex.Alternatives ex.Bound ex.Expr ex.Item ex.Alt ex.Binding alternatives_step bound_step expr_step item_step alt_step
+    binding_step
 
 unfoldable pub item_view : Item → ex.Item
 item_view = fold-Item ex.Alternatives ex.Bound ex.Expr ex.Item ex.Alt ex.Binding alternatives_step bound_step expr_step item_step alt_step binding_step

@@ -26,18 +26,22 @@ use Rattle.ddl_typed.proofs.Depthless.{same_den}
 
 -- ---- what is told of one parse and of one failure
 
-pub told_parse : (name : Span) (v : Value) (s : Stream) → is_too_deep v ≡ false → told (cut name (parsed v s)) ≡ Some (record { parses = record { value = plain_of v; source = s.source; end = s.from } ∷ []; closing = counted 1 })
+pub told_parse : (name : Span) (v : Value) (s : Stream) → is_too_deep v ≡ false
+    → told (cut name (parsed v s)) ≡ Some (record { parses = record { value = plain_of v; source = s.source; end = s.from } ∷ []; closing = counted 1 })
 told_parse name v s h = ap (λ (b : Bool). told (if b then ends (Faulted DeepResult name) else parsed v s)) h
 
-pub told_deep : (name : Span) (v : Value) (s : Stream) → is_too_deep v ≡ true → told (cut name (parsed v s)) ≡ Some (record { parses = []; closing = faulted DeepResult name })
+pub told_deep : (name : Span) (v : Value) (s : Stream) → is_too_deep v ≡ true
+    → told (cut name (parsed v s)) ≡ Some (record { parses = []; closing = faulted DeepResult name })
 told_deep name v s h = ap (λ (b : Bool). told (if b then ends (Faulted DeepResult name) else parsed v s)) h
 
-pub told_failed : (name : Span) (w : Why) (source : Source) (a : ℕ) (span : Span) → told (cut name (missed w source a span)) ≡ Some (record { parses = []; closing = failed (record { why = w; source = source; at = a; span = span }) })
+pub told_failed : (name : Span) (w : Why) (source : Source) (a : ℕ) (span : Span)
+    → told (cut name (missed w source a span)) ≡ Some (record { parses = []; closing = failed (record { why = w; source = source; at = a; span = span }) })
 told_failed name w in_input a span = refl
 told_failed name w in_array a span = refl
 
 -- a stop by a failure
-pub gives_failed : (input : List ℕ) (o : Outcome) (stop : Stop) (f : Failure) → stop ≡ Failed f → Gives input o (Err stop) → o ≡ missed f.why (source_of f.in_input) f.at f.span
+pub gives_failed : (input : List ℕ) (o : Outcome) (stop : Stop) (f : Failure) → stop ≡ Failed f → Gives input o (Err stop)
+    → o ≡ missed f.why (source_of f.in_input) f.at f.span
 gives_failed input o stop f e g = (subst (λ s. Gives input o (Err s)) e g).0
 
 pub gives_unsaid : (input : List ℕ) (o : Outcome) (stop : Stop) (f : Failure) → stop ≡ Failed f → Gives input o (Err stop) → is_said f.why ≡ false
@@ -71,14 +75,16 @@ told_is_whole o a h = λ deep. told_deep_is_none (ap (λ e. told_of (answer_at e
     told_deep_is_none e = cc
 
 -- at every depth from 1 on
-told_denoted : (name : Span) (e : Expr) (input : List ℕ) (a : Told) (n : ℕ) → IsSimple e 0 → told (cut name (meant input e empty 0)) ≡ Some a → told (Denoted (suc n) (alone name e) 0 input) ≡ Some a
+told_denoted : (name : Span) (e : Expr) (input : List ℕ) (a : Told) (n : ℕ) → IsSimple e 0 → told (cut name (meant input e empty 0)) ≡ Some a
+    → told (Denoted (suc n) (alone name e) 0 input) ≡ Some a
 unfolding meant
 told_denoted name e input a n simple h =
     told_unticked name (tick (den (alone name e) (level (alone name e) n) e empty (whole_input input)))
     ∙ ap (λ o. told (cut name (unticked o))) (same_den (alone name e) (level (alone name e) n) e 0 empty (whole_input input) simple)
     ∙ h
 
-pub simple_answer : (name : Span) (e : Expr) (input : List ℕ) (a : Told) → IsSimple e 0 → told (cut name (meant input e empty 0)) ≡ Some a → IsAnswer (alone name e) 0 input a
+pub simple_answer : (name : Span) (e : Expr) (input : List ℕ) (a : Told) → IsSimple e 0 → told (cut name (meant input e empty 0)) ≡ Some a
+    → IsAnswer (alone name e) 0 input a
 simple_answer name e input a simple h = record {
   enough = (1, told_is_whole (Denoted 1 (alone name e) 0 input) a (told_denoted name e input a 0 simple h));
   always = each_depth;

@@ -5,7 +5,8 @@ use Rattle.ddl_types.specs.Types.{Ty}
 use Rattle.ddl_types.specs.Value.{Value, Stream}
 use Rattle.ddl_types.specs.Outcome.{Outcome, ends, tick, miss, parse, parsed}
 use Rattle.ddl_types.specs.Joining.{Both, Bind, leave}
-use Rattle.ddl_typed.specs.Tree.{Expr, Form, Items, Item, Spec, no_spec, expr, text, local, pure, uint8, match, end, block, no_items, item, plain, let_, field, result_}
+use Rattle.ddl_typed.specs.Tree.{Expr, Form, Items, Item, Spec, no_spec, expr, text, local, pure, uint8, match, end, block, no_items, item, plain, let_, field}
+use Rattle.ddl_typed.specs.Tree.{result_}
 use Rattle.ddl_typed.specs.Env.{Env}
 use Rattle.ddl_ops.specs.Valued.{then_parse}
 use Rattle.ddl_ops.specs.Primitives.{match_value}
@@ -35,7 +36,8 @@ module _ (spec : Spec) (lower : Lower) where
     pub same_den : (e : Expr) (n : ℕ) (env : Env) (s : Stream) → IsSimple e n → den spec lower e env s ≡ den no_spec bottom e env s
     same_den (expr form ty span) n env s h = same_form form ty span n env s h
 
-    same_form : (form : Form) (ty : Ty) (span : Span) (n : ℕ) (env : Env) (s : Stream) → IsSimpleForm form n → form_den spec lower form ty span env s ≡ form_den no_spec bottom form ty span env s
+    same_form : (form : Form) (ty : Ty) (span : Span) (n : ℕ) (env : Env) (s : Stream) → IsSimpleForm form n
+        → form_den spec lower form ty span env s ≡ form_den no_spec bottom form ty span env s
     same_form (pure e) ty span n env s h = ap (λ o. tick (then_parse o (λ v. parsed v s))) (same_value e n env h)
     same_form uint8 ty span n env s h = refl
     same_form (match e) ty span n env s h = ap (λ o. tick (then_parse o (λ v. match_value v span s))) (same_text e env h)
@@ -43,7 +45,8 @@ module _ (spec : Spec) (lower : Lower) where
     same_form (block is) ty span n env s h = ap (λ o. tick (leave o)) (same_items is n env nothing_built s h)
     same_form form ty span n env s h = absurd h
 
-    same_items : (is : Items) (n : ℕ) (env : Env) (b : Built) (s : Stream) → AreSimple is n → den_items spec lower is env b s ≡ den_items no_spec bottom is env b s
+    same_items : (is : Items) (n : ℕ) (env : Env) (b : Built) (s : Stream) → AreSimple is n
+        → den_items spec lower is env b s ≡ den_items no_spec bottom is env b s
     same_items no_items n env b s h = refl
     same_items (item i is) n env b s h =
         ap (λ o. Bind o (λ v t. den_items spec lower is (bound i v env) (with_part i v b) t)) (same_item i n env s h.0)

@@ -1,5 +1,6 @@
 -- One more item of a block, and one more name in scope.
-use Rattle.std.proofs.Common.{◌≡◌, ℕ, zero, suc, ◌+◌, ◌<◌, ◌≤◌, List, [], ◌∷◌, ◌++◌, length, map, drop, take, get_or, refl, ap, sym, ◌∙◌, subst, drop-cons, add-one, append_assoc, arith}
+use Rattle.std.proofs.Common.{◌≡◌, ℕ, zero, suc, ◌+◌, ◌<◌, ◌≤◌, List, [], ◌∷◌, ◌++◌, length, map, drop, take, get_or, refl, ap, sym, ◌∙◌, subst, drop-cons}
+use Rattle.std.proofs.Common.{add-one, append_assoc, arith}
 use Rattle.std.proofs.lemmas.List.{drop_all, take-append-drop, map-append, length-map, get_or-map}
 use Rattle.std.proofs.Math.Seq.{take-append_seam}
 use Rattle.std.specs.declared.alloc.Global.{Global}
@@ -26,18 +27,25 @@ use Rattle.ddl_typed.proofs.Meant.{items_none, items_gave, items_failed}
 at_item : (xs : List TItem) (k : ℕ) (x : TItem) → k < length xs → x ≡ get_or xs k x → items_view (drop k xs) ≡ item (item_view x) (items_view (drop (k + 1) xs))
 at_item xs k x h e = let next : drop k xs ≡ x ∷ drop (k + 1) xs = rw (add-one, drop-cons xs k x, ← e) in ap items_view next
 
-pub next_simple : (xs : List TItem) (k n : ℕ) (x : TItem) → k < length xs → x ≡ get_or xs k x → AreSimple (items_view (drop k xs)) n → IsSimpleItem (item_view x) n × AreSimple (items_view (drop (k + 1) xs)) (names_after (item_view x) n)
+pub next_simple : (xs : List TItem) (k n : ℕ) (x : TItem) → k < length xs → x ≡ get_or xs k x → AreSimple (items_view (drop k xs)) n
+    → IsSimpleItem (item_view x) n × AreSimple (items_view (drop (k + 1) xs)) (names_after (item_view x) n)
 next_simple xs k n x h e s = subst (λ is. AreSimple is n) (at_item xs k x h e) s
 
-pub next_gave : (input : List ℕ) (xs : List TItem) (k : ℕ) (x : TItem) (env : Env) (b : Built) (at next : ℕ) (v : Value) → k < length xs → x ≡ get_or xs k x → meant_item input (item_view x) env at ≡ parsed v (stream_at input next) → meant_items input (items_view (drop k xs)) env b at ≡ meant_items input (items_view (drop (k + 1) xs)) (bound (item_view x) v env) (with_part (item_view x) v b) next
+pub next_gave : (input : List ℕ) (xs : List TItem) (k : ℕ) (x : TItem) (env : Env) (b : Built) (at next : ℕ) (v : Value) → k < length xs → x ≡ get_or xs k x
+    → meant_item input (item_view x) env at ≡ parsed v (stream_at input next)
+    → meant_items input (items_view (drop k xs)) env b at ≡ meant_items input (items_view (drop (k + 1) xs)) (bound (item_view x) v env)
+    (with_part (item_view x) v b) next
 next_gave input xs k x env b at next v h e g =
     ap (λ is. meant_items input is env b at) (at_item xs k x h e) ∙ items_gave input (item_view x) (items_view (drop (k + 1) xs)) env b at next v g
 
-pub next_failed : (input : List ℕ) (xs : List TItem) (k : ℕ) (x : TItem) (env : Env) (b : Built) (at : ℕ) (w : Why) (source : Source) (a : ℕ) (span : Span) → k < length xs → x ≡ get_or xs k x → meant_item input (item_view x) env at ≡ missed w source a span → meant_items input (items_view (drop k xs)) env b at ≡ missed w source a span
+pub next_failed : (input : List ℕ) (xs : List TItem) (k : ℕ) (x : TItem) (env : Env) (b : Built) (at : ℕ) (w : Why) (source : Source) (a : ℕ) (span : Span)
+    → k < length xs → x ≡ get_or xs k x → meant_item input (item_view x) env at ≡ missed w source a span
+    → meant_items input (items_view (drop k xs)) env b at ≡ missed w source a span
 next_failed input xs k x env b at w source a span h e g =
     ap (λ is. meant_items input is env b at) (at_item xs k x h e) ∙ items_failed input (item_view x) (items_view (drop (k + 1) xs)) env b at w source a span g
 
-pub none_left : (input : List ℕ) (xs : List TItem) (k : ℕ) (env : Env) (b : Built) (at : ℕ) → length xs ≤ k → meant_items input (items_view (drop k xs)) env b at ≡ parsed (block_value b) (stream_at input at)
+pub none_left : (input : List ℕ) (xs : List TItem) (k : ℕ) (env : Env) (b : Built) (at : ℕ) → length xs ≤ k
+    → meant_items input (items_view (drop k xs)) env b at ≡ parsed (block_value b) (stream_at input at)
 none_left input xs k env b at h = ap (λ ys. meant_items input (items_view ys) env b at) (drop_all k xs h) ∙ items_none input env b at
 
 -- what is kept below a number of names is kept below fewer
@@ -57,11 +65,13 @@ one_more_name n [] v env = ap (λ m. with_value m v env) (omega arith)
 one_more_name n (w ∷ vs) v env =
     one_more_name (n + 1) vs v (with_value n w env) ∙ ap (λ m. with_value m v (env_from (n + 1) vs (with_value n w env))) (omega arith)
 
-pub scope_push : (scope : List (Rc Shared Global)) (rc : Rc Shared Global) → scope_view (scope ++ rc ∷ []) ≡ with_value (length scope) (rc_view rc) (scope_view scope)
+pub scope_push : (scope : List (Rc Shared Global)) (rc : Rc Shared Global)
+    → scope_view (scope ++ rc ∷ []) ≡ with_value (length scope) (rc_view rc) (scope_view scope)
 scope_push scope rc =
     ap (λ vs. env_from 0 vs empty) (map-append rc_view scope (rc ∷ []))
     ∙ one_more_name 0 (map rc_view scope) (rc_view rc) empty
-    ∙ ap (λ m. with_value m (rc_view rc) (scope_view scope)) (let e : 0 + length (map rc_view scope) ≡ length scope = omega (arith, length-map scope rc_view) in e)
+    ∙ ap (λ m. with_value m (rc_view rc) (scope_view scope)) (let e : 0 + length (map rc_view scope) ≡ length scope = omega (arith, length-map scope rc_view)
+    in e)
 
 pub take_push : {X : Type 0} (xs ys : List X) → take (length xs) (xs ++ ys) ≡ xs
 take_push xs ys = take-append_seam xs ys
@@ -78,7 +88,8 @@ name_at n (suc x) (v ∷ vs) env d h =
     ap (λ m. lookup (env_from (n + 1) vs (with_value n v env)) m) (let e : n + suc x ≡ n + 1 + x = omega arith in e)
     ∙ name_at (n + 1) x vs (with_value n v env) d (omega arith)
 
-pub scope_at : (scope : List (Rc Shared Global)) (x : ℕ) (rc : Rc Shared Global) → x < length scope → rc ≡ get_or scope x rc → lookup (scope_view scope) x ≡ gives (rc_view rc)
+pub scope_at : (scope : List (Rc Shared Global)) (x : ℕ) (rc : Rc Shared Global) → x < length scope → rc ≡ get_or scope x rc
+    → lookup (scope_view scope) x ≡ gives (rc_view rc)
 scope_at scope x rc h e =
     ap (λ m. lookup (scope_view scope) m) (let z : x ≡ 0 + x = omega arith in z)
     ∙ name_at 0 x (map rc_view scope) empty (rc_view rc) (omega (arith, length-map scope rc_view))
@@ -89,7 +100,8 @@ pub value_text : (bs : List ℕ) (ty : Ty) (span : Span) (env : Env) → simple_
 unfolding simple_value_of
 value_text bs ty span env = refl
 
-pub value_name : (x : ℕ) (ty : Ty) (span : Span) (env : Env) (v : Value) → lookup env x ≡ gives v → simple_value_of (expr (local x) ty span) env ≡ counts (gives v)
+pub value_name : (x : ℕ) (ty : Ty) (span : Span) (env : Env) (v : Value) → lookup env x ≡ gives v
+    → simple_value_of (expr (local x) ty span) env ≡ counts (gives v)
 unfolding simple_value_of
 value_name x ty span env v h = ap counts h
 

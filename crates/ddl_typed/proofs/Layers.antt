@@ -12,7 +12,8 @@ use Rattle.ddl_typed.specs.declared.expr.TAlternative.{TAlternative, out-TAltern
 use Rattle.ddl_typed.specs.declared.expr.TCase.{TCase, out-TCase}
 use Rattle.ddl_typed.specs.declared.expr.TField.{TField, out-TField}
 use Rattle.ddl_typed.specs.PartView.{class_view, class_layer}
-use Rattle.ddl_typed.specs.View.{view, form_view, item_view, content_view, bounds_view, argument_view, alternative_view, case_view, field_view, form_layer, item_layer, content_layer, bounds_layer, argument_layer, alternative_layer, case_layer, expr_layer, field_layer}
+use Rattle.ddl_typed.specs.View.{view, form_view, item_view, content_view, bounds_view, argument_view, alternative_view, case_view, field_view, form_layer}
+use Rattle.ddl_typed.specs.View.{item_layer, content_layer, bounds_layer, argument_layer, alternative_layer, case_layer, expr_layer, field_layer}
 
 form_view_roll : (l : TForm-F TArgument TBounds TContent TForm TItem TAlternative TCase TExpr TField) → form_view (roll-TForm l) ≡ form_layer l
 unfolding view form_view item_view content_view bounds_view argument_view alternative_view case_view field_view
@@ -85,7 +86,8 @@ bounds_view_roll (TBounds-F.Between a b) = search (rules, the_lemmas)
 pub bounds_view_out : (b : TBounds) → bounds_view b ≡ bounds_layer (out-TBounds b)
 bounds_view_out b = ap bounds_view (sym (roll-out-TBounds b)) ∙ bounds_view_roll (out-TBounds b)
 
-argument_view_roll : (l : TArgument-F TArgument TBounds TContent TForm TItem TAlternative TCase TExpr TField) → argument_view (roll-TArgument l) ≡ argument_layer l
+argument_view_roll : (l : TArgument-F TArgument TBounds TContent TForm TItem TAlternative TCase TExpr TField)
+    → argument_view (roll-TArgument l) ≡ argument_layer l
 unfolding view form_view item_view content_view bounds_view argument_view alternative_view case_view field_view
 argument_view_roll (TArgument-F.Value x e) = search (rules, the_lemmas)
 argument_view_roll (TArgument-F.Grammar x site e) = search (rules, the_lemmas)
@@ -126,4 +128,15 @@ class_view_out k = ap class_view (sym (roll-out-TClass k)) ∙ class_view_roll (
 
 pub ruleset class_layers = (class_view_out, c.the_lemmas)
 
-pub ruleset layers = (view_out, form_view_out, item_view_out, content_view_out, bounds_view_out, argument_view_out, alternative_view_out, case_view_out, field_view_out, the_lemmas)
+pub ruleset layers = (
+  view_out,
+  form_view_out,
+  item_view_out,
+  content_view_out,
+  bounds_view_out,
+  argument_view_out,
+  alternative_view_out,
+  case_view_out,
+  field_view_out,
+  the_lemmas,
+)

@@ -19,7 +19,8 @@ use Rattle.ddl_typed.specs.Evaluated.{stream_at, meant, meant_item, meant_items,
 
 -- ---- forms
 
-pub byte_there : (input : List ℕ) (span : Span) (at : ℕ) → at < length input → byte_at input span at ≡ parsed (byte_value (get_or input at 0)) (stream_at input (at + 1))
+pub byte_there : (input : List ℕ) (span : Span) (at : ℕ) → at < length input
+    → byte_at input span at ≡ parsed (byte_value (get_or input at 0)) (stream_at input (at + 1))
 unfolding byte_at
 byte_there input span at h = grind arith
 
@@ -43,7 +44,8 @@ pub meant_end : (input : List ℕ) (ty : Ty) (span : Span) (env : Env) (at : ℕ
 unfolding meant end_at
 meant_end input ty span env at = refl
 
-pub meant_pure : (input : List ℕ) (e : Expr) (ty : Ty) (span : Span) (env : Env) (at : ℕ) (v : Value) → simple_value_of e env ≡ counts (gives v) → meant input (expr (pure e) ty span) env at ≡ parsed v (stream_at input at)
+pub meant_pure : (input : List ℕ) (e : Expr) (ty : Ty) (span : Span) (env : Env) (at : ℕ) (v : Value) → simple_value_of e env ≡ counts (gives v)
+    → meant input (expr (pure e) ty span) env at ≡ parsed v (stream_at input at)
 unfolding meant simple_value_of
 meant_pure input e ty span env at v h = ap (λ o. unticked (tick (then_parse o (λ w. parsed w (stream_at input at))))) h
 
@@ -52,13 +54,15 @@ with_text : (bs : List ℕ) (rest : List ℕ → Outcome) → with_bytes (byte_v
 with_text [] rest = refl
 with_text (b ∷ bs) rest = with_text bs (λ cs. rest (b ∷ cs))
 
-pub meant_match : (input : List ℕ) (bs : List ℕ) (e : Expr) (ty : Ty) (span : Span) (env : Env) (at : ℕ) → IsTextOf bs e → meant input (expr (match e) ty span) env at ≡ matched input bs bs span at
+pub meant_match : (input : List ℕ) (bs : List ℕ) (e : Expr) (ty : Ty) (span : Span) (env : Env) (at : ℕ) → IsTextOf bs e
+    → meant input (expr (match e) ty span) env at ≡ matched input bs bs span at
 unfolding meant matched
 meant_match input bs e ty span env at h =
     ap (λ f. meant input (expr (match f) ty span) env at) h.2
     ∙ ap unticked (with_text bs (λ cs. match_bytes cs (array (byte_values bs)) span (stream_at input at)))
 
-pub meant_block : (input : List ℕ) (is : Items) (ty : Ty) (span : Span) (env : Env) (at : ℕ) → meant input (expr (block is) ty span) env at ≡ meant_items input is env nothing_built at
+pub meant_block : (input : List ℕ) (is : Items) (ty : Ty) (span : Span) (env : Env) (at : ℕ)
+    → meant input (expr (block is) ty span) env at ≡ meant_items input is env nothing_built at
 unfolding meant meant_items
 meant_block input is ty span env at = unticked_leave (den_items no_spec bottom is env nothing_built (stream_at input at))
 
@@ -88,12 +92,16 @@ items_none input env b at = refl
 rest_of : Items → Env → Built → Item → Value → Stream → Outcome
 rest_of is env b i v s = unticked (den_items no_spec bottom is (bound i v env) (with_part i v b) s)
 
-items_bound : (input : List ℕ) (i : Item) (is : Items) (env : Env) (b : Built) (at : ℕ) → meant_items input (item i is) env b at ≡ Bind (meant_item input i env at) (rest_of is env b i)
+items_bound : (input : List ℕ) (i : Item) (is : Items) (env : Env) (b : Built) (at : ℕ)
+    → meant_items input (item i is) env b at ≡ Bind (meant_item input i env at) (rest_of is env b i)
 unfolding meant_items meant_item rest_of
-items_bound input i is env b at = unticked_bind (den_item no_spec bottom i env (stream_at input at)) (λ v s. den_items no_spec bottom is (bound i v env) (with_part i v b) s)
+items_bound input i is env b at = unticked_bind (den_item no_spec bottom i env (stream_at input at)) (λ v s.
+    den_items no_spec bottom is (bound i v env) (with_part i v b) s)
 
 -- an item that gave a value
-pub items_gave : (input : List ℕ) (i : Item) (is : Items) (env : Env) (b : Built) (at next : ℕ) (v : Value) → meant_item input i env at ≡ parsed v (stream_at input next) → meant_items input (item i is) env b at ≡ meant_items input is (bound i v env) (with_part i v b) next
+pub items_gave : (input : List ℕ) (i : Item) (is : Items) (env : Env) (b : Built) (at next : ℕ) (v : Value)
+    → meant_item input i env at ≡ parsed v (stream_at input next)
+    → meant_items input (item i is) env b at ≡ meant_items input is (bound i v env) (with_part i v b) next
 unfolding meant_items rest_of
 items_gave input i is env b at next v h =
     items_bound input i is env b at
@@ -101,7 +109,23 @@ items_gave input i is env b at next v h =
     ∙ both_end (rest_of is env b i v (stream_at input next))
 
 -- an item that failed
-pub items_failed : (input : List ℕ) (i : Item) (is : Items) (env : Env) (b : Built) (at : ℕ) (w : Why) (source : Source) (a : ℕ) (span : Span) → meant_item input i env at ≡ missed w source a span → meant_items input (item i is) env b at ≡ missed w source a span
+pub items_failed : (input : List ℕ) (i : Item) (is : Items) (env : Env) (b : Built) (at : ℕ) (w : Why) (source : Source) (a : ℕ) (span : Span)
+    → meant_item input i env at ≡ missed w source a span → meant_items input (item i is) env b at ≡ missed w source a span
 items_failed input i is env b at w source a span h = items_bound input i is env b at ∙ ap (λ o. Bind o (rest_of is env b i)) h
 
-pub ruleset meants = (byte_there, byte_absent, end_there, end_absent, meant_uint8, meant_end, meant_pure, meant_match, meant_block, item_plain, item_let, item_field, item_result, items_none)
+pub ruleset meants = (
+  byte_there,
+  byte_absent,
+  end_there,
+  end_absent,
+  meant_uint8,
+  meant_end,
+  meant_pure,
+  meant_match,
+  meant_block,
+  item_plain,
+  item_let,
+  item_field,
+  item_result,
+  items_none,
+)

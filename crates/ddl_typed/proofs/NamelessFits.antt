@@ -1,5 +1,6 @@
 -- Layouts with and without names have the same widths, numbers and constructors.
-use Rattle.std.proofs.Common.{◌≡◌, ℕ, suc, ◌+◌, ◌/◌, ◌%◌, ◌^◌, Bool, true, false, ◌&&◌, ◌||◌, if◌then◌else◌, Option, Some, None, option_map, refl, ap, ap₂, sym, ◌∙◌, arith}
+use Rattle.std.proofs.Common.{◌≡◌, ℕ, suc, ◌+◌, ◌/◌, ◌%◌, ◌^◌, Bool, true, false, ◌&&◌, ◌||◌, if◌then◌else◌, Option, Some, None, option_map, refl, ap, ap₂, sym}
+use Rattle.std.proofs.Common.{◌∙◌, arith}
 use Rattle.ddl_types.specs.Layout as named
 use Rattle.ddl_bits.specs.Tree as bare
 use Rattle.ddl_typed.specs.Nameless.{nameless, con_nameless, parts_nameless, part_nameless, con_at_place}
@@ -59,7 +60,8 @@ behind_first : (c : named.Con) (cs : named.Layout) (k : Option ℕ) → con_at_p
 behind_first c cs None = refl
 behind_first c cs (Some k) = refl
 
-either_con : (b : Bool) (c : named.Con) (cs : named.Layout) (x : Option named.Con) (k : Option ℕ) → x ≡ con_at_place (named.one_of c cs) k → (if b then Some c else x) ≡ con_at_place (named.one_of c cs) (if b then Some 0 else k)
+either_con : (b : Bool) (c : named.Con) (cs : named.Layout) (x : Option named.Con) (k : Option ℕ) → x ≡ con_at_place (named.one_of c cs) k
+    → (if b then Some c else x) ≡ con_at_place (named.one_of c cs) (if b then Some 0 else k)
 either_con true c cs x k e = refl
 either_con false c cs x k e = e
 
@@ -67,6 +69,7 @@ pub con_same : (l : named.Layout) (n : ℕ) → named.con_of l n ≡ con_at_plac
 con_same named.no_cons n = refl
 con_same (named.one_of c cs) n =
     let behind : named.con_of cs n ≡ con_at_place (named.one_of c cs) (bare.place_from 1 (nameless cs) n)
-    = con_same cs n ∙ sym (behind_first c cs (bare.place_from 0 (nameless cs) n)) ∙ ap (con_at_place (named.one_of c cs)) (sym (next_place 0 (nameless cs) n)) in
+    = con_same cs n ∙ sym (behind_first c cs (bare.place_from 0 (nameless cs) n)) ∙ ap (con_at_place (named.one_of c cs)) (sym (next_place 0 (nameless cs) n))
+    in
     ap {B = Option named.Con} (λ b. if b then Some c else named.con_of cs n) (con_fits_same c n)
     ∙ either_con (bare.parts_fit (con_nameless c) n) c cs (named.con_of cs n) (bare.place_from 1 (nameless cs) n) behind

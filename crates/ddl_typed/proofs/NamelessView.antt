@@ -34,7 +34,8 @@ abbrev mutual
 abbrev SameBelow : ℕ → Type 0
 SameBelow n = (l : Layout) → suc (inside (bare.layout_view l)) ≤ n → SameLayout l
 
-part_layer_same : (n : ℕ) → SameBelow n → (p : LayoutPart-F LayoutPart Layout LayoutCon) → inside_part (bare.part_layer p) ≤ n → part_nameless (named.part_layer p) ≡ bare.part_layer p
+part_layer_same : (n : ℕ) → SameBelow n → (p : LayoutPart-F LayoutPart Layout LayoutCon) → inside_part (bare.part_layer p) ≤ n
+    → part_nameless (named.part_layer p) ≡ bare.part_layer p
 part_layer_same n below (LayoutPart-F.Fixed bits width) h = refl
 part_layer_same n below (LayoutPart-F.Any name width) h = refl
 part_layer_same n below (LayoutPart-F.Inner name l) h = ap tree.inner (below l.value h)

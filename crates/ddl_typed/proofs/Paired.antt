@@ -38,5 +38,6 @@ told_paired None t e = absurd (let n : ⊥ = cc in n)
 told_paired (Some a) t e = shown_paired a.parses t.parses.items (ap told_parses e)
 
 -- each value that is told has as many names and keys as values
-pub answer_paired : (spec : Spec) (entry : ℕ) (input : List ℕ) (t : Given) → IsAnswer spec entry input (answer_view t) → All (λ (q : Parse). IsPaired (plain_view q.value)) t.parses.items
+pub answer_paired : (spec : Spec) (entry : ℕ) (input : List ℕ) (t : Given) → IsAnswer spec entry input (answer_view t)
+    → All (λ (q : Parse). IsPaired (plain_view q.value)) t.parses.items
 answer_paired spec entry input t h = let n = h.enough.0 in told_paired (answer_of (Denoted n spec entry input)) t (h.always n h.enough.1)

@@ -1,5 +1,6 @@
 -- The evaluator's values, level by level and part by part.
-use Rattle.std.proofs.Common.{◌≡◌, ℕ, ◌+◌, ◌<◌, ◌≤◌, List, [], ◌∷◌, map, drop, length, get_or, refl, ap, sym, ◌∙◌, rules, arith, drop-cons, add-one, Bool, true, false, if◌then◌else◌}
+use Rattle.std.proofs.Common.{◌≡◌, ℕ, ◌+◌, ◌<◌, ◌≤◌, List, [], ◌∷◌, map, drop, length, get_or, refl, ap, sym, ◌∙◌, rules, arith, drop-cons, add-one, Bool, true}
+use Rattle.std.proofs.Common.{false, if◌then◌else◌}
 use Rattle.std.specs.Prelude.{max, nat_lt}
 use Rattle.std.proofs.lemmas.List.{drop_all}
 use Rattle.ddl_types.specs.Plain.{one, deep, deepest, is_hidden}
@@ -44,7 +45,8 @@ pub ruleset record_parts = (names_of_parts, plain_of_parts, plain_of_bytes)
 
 -- ---- how deep a record nests
 
-deeper_or : (hidden : Bool) (room a b : ℕ) → nat_lt room (if hidden then b else max a b) ≡ (if nat_lt room (if hidden then 0 else a) then true else nat_lt room b)
+deeper_or : (hidden : Bool) (room a b : ℕ) → nat_lt room (if hidden then b else max a b)
+    ≡ (if nat_lt room (if hidden then 0 else a) then true else nat_lt room b)
 deeper_or true room a b = grind arith
 deeper_or false room a b = grind arith
 
@@ -52,13 +54,15 @@ at_next : (ps : List Part) (i : ℕ) (p : Part) → i < length ps → p ≡ get_
 at_next ps i p h e = rw (add-one, drop-cons ps i p, ← e)
 
 -- the part at a place is the deeper one, or the rest says
-pub deeper_here : (ps : List Part) (i room : ℕ) (p : Part) → i < length ps → p ≡ get_or ps i p → nat_lt room (part_deep p) ≡ true → nat_lt room (parts_deep (drop i ps)) ≡ true
+pub deeper_here : (ps : List Part) (i room : ℕ) (p : Part) → i < length ps → p ≡ get_or ps i p → nat_lt room (part_deep p) ≡ true
+    → nat_lt room (parts_deep (drop i ps)) ≡ true
 deeper_here ps i room p h e t =
     ap (λ qs. nat_lt room (parts_deep qs)) (at_next ps i p h e)
     ∙ deeper_or (is_hidden (part_name p)) room (deep (part_plain p)) (parts_deep (drop (i + 1) ps))
     ∙ ap (λ b. if b then true else nat_lt room (parts_deep (drop (i + 1) ps))) t
 
-pub deeper_later : (ps : List Part) (i room : ℕ) (p : Part) → i < length ps → p ≡ get_or ps i p → nat_lt room (part_deep p) ≡ false → nat_lt room (parts_deep (drop i ps)) ≡ nat_lt room (parts_deep (drop (i + 1) ps))
+pub deeper_later : (ps : List Part) (i room : ℕ) (p : Part) → i < length ps → p ≡ get_or ps i p → nat_lt room (part_deep p) ≡ false
+    → nat_lt room (parts_deep (drop i ps)) ≡ nat_lt room (parts_deep (drop (i + 1) ps))
 deeper_later ps i room p h e t =
     ap (λ qs. nat_lt room (parts_deep qs)) (at_next ps i p h e)
     ∙ deeper_or (is_hidden (part_name p)) room (deep (part_plain p)) (parts_deep (drop (i + 1) ps))
@@ -71,13 +75,15 @@ deeper_none ps i room h = ap (λ qs. nat_lt room (parts_deep qs)) (drop_all i ps
 bytes_next : (bs : List ℕ) (i b : ℕ) → i < length bs → b ≡ get_or bs i 0 → drop i bs ≡ b ∷ drop (i + 1) bs
 bytes_next bs i b h e = rw (add-one, drop-cons bs i 0, ← e)
 
-pub deeper_byte_here : (bs : List ℕ) (i room b : ℕ) → i < length bs → b ≡ get_or bs i 0 → nat_lt room (deep (plain_of (byte_value b))) ≡ true → nat_lt room (deepest (plain_values (byte_values (drop i bs)))) ≡ true
+pub deeper_byte_here : (bs : List ℕ) (i room b : ℕ) → i < length bs → b ≡ get_or bs i 0 → nat_lt room (deep (plain_of (byte_value b))) ≡ true
+    → nat_lt room (deepest (plain_values (byte_values (drop i bs)))) ≡ true
 deeper_byte_here bs i room b h e t =
     ap (λ cs. nat_lt room (deepest (plain_values (byte_values cs)))) (bytes_next bs i b h e)
     ∙ deeper_or false room (deep (plain_of (byte_value b))) (deepest (plain_values (byte_values (drop (i + 1) bs))))
     ∙ ap (λ c. if c then true else nat_lt room (deepest (plain_values (byte_values (drop (i + 1) bs))))) t
 
-pub deeper_byte_later : (bs : List ℕ) (i room b : ℕ) → i < length bs → b ≡ get_or bs i 0 → nat_lt room (deep (plain_of (byte_value b))) ≡ false → nat_lt room (deepest (plain_values (byte_values (drop i bs)))) ≡ nat_lt room (deepest (plain_values (byte_values (drop (i + 1) bs))))
+pub deeper_byte_later : (bs : List ℕ) (i room b : ℕ) → i < length bs → b ≡ get_or bs i 0 → nat_lt room (deep (plain_of (byte_value b))) ≡ false
+    → nat_lt room (deepest (plain_values (byte_values (drop i bs)))) ≡ nat_lt room (deepest (plain_values (byte_values (drop (i + 1) bs))))
 deeper_byte_later bs i room b h e t =
     ap (λ cs. nat_lt room (deepest (plain_values (byte_values cs)))) (bytes_next bs i b h e)
     ∙ deeper_or false room (deep (plain_of (byte_value b))) (deepest (plain_values (byte_values (drop (i + 1) bs))))

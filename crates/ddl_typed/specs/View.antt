@@ -148,31 +148,40 @@ field_step f = (f.label, f.value)
 -- ---- the views
 
 unfoldable pub argument_view : TArgument → OneArgument
-argument_view = fold-TArgument OneArgument t.Bounds t.Content t.Form t.Item OneAlternative OneCase t.Expr OneField argument_step bounds_step content_step form_step item_step alternative_step case_step expr_step field_step
+argument_view = fold-TArgument OneArgument t.Bounds t.Content t.Form t.Item OneAlternative OneCase t.Expr OneField argument_step bounds_step content_step
+    form_step item_step alternative_step case_step expr_step field_step
 
 unfoldable pub bounds_view : TBounds → t.Bounds
-bounds_view = fold-TBounds OneArgument t.Bounds t.Content t.Form t.Item OneAlternative OneCase t.Expr OneField argument_step bounds_step content_step form_step item_step alternative_step case_step expr_step field_step
+bounds_view = fold-TBounds OneArgument t.Bounds t.Content t.Form t.Item OneAlternative OneCase t.Expr OneField argument_step bounds_step content_step form_step
+    item_step alternative_step case_step expr_step field_step
 
 unfoldable pub content_view : TContent → t.Content
-content_view = fold-TContent OneArgument t.Bounds t.Content t.Form t.Item OneAlternative OneCase t.Expr OneField argument_step bounds_step content_step form_step item_step alternative_step case_step expr_step field_step
+content_view = fold-TContent OneArgument t.Bounds t.Content t.Form t.Item OneAlternative OneCase t.Expr OneField argument_step bounds_step content_step
+    form_step item_step alternative_step case_step expr_step field_step
 
 unfoldable pub form_view : TForm → t.Form
-form_view = fold-TForm OneArgument t.Bounds t.Content t.Form t.Item OneAlternative OneCase t.Expr OneField argument_step bounds_step content_step form_step item_step alternative_step case_step expr_step field_step
+form_view = fold-TForm OneArgument t.Bounds t.Content t.Form t.Item OneAlternative OneCase t.Expr OneField argument_step bounds_step content_step form_step
+    item_step alternative_step case_step expr_step field_step
 
 unfoldable pub item_view : TItem → t.Item
-item_view = fold-TItem OneArgument t.Bounds t.Content t.Form t.Item OneAlternative OneCase t.Expr OneField argument_step bounds_step content_step form_step item_step alternative_step case_step expr_step field_step
+item_view = fold-TItem OneArgument t.Bounds t.Content t.Form t.Item OneAlternative OneCase t.Expr OneField argument_step bounds_step content_step form_step
+    item_step alternative_step case_step expr_step field_step
 
 unfoldable pub alternative_view : TAlternative → OneAlternative
-alternative_view = fold-TAlternative OneArgument t.Bounds t.Content t.Form t.Item OneAlternative OneCase t.Expr OneField argument_step bounds_step content_step form_step item_step alternative_step case_step expr_step field_step
+alternative_view = fold-TAlternative OneArgument t.Bounds t.Content t.Form t.Item OneAlternative OneCase t.Expr OneField argument_step bounds_step content_step
+    form_step item_step alternative_step case_step expr_step field_step
 
 unfoldable pub case_view : TCase → OneCase
-case_view = fold-TCase OneArgument t.Bounds t.Content t.Form t.Item OneAlternative OneCase t.Expr OneField argument_step bounds_step content_step form_step item_step alternative_step case_step expr_step field_step
+case_view = fold-TCase OneArgument t.Bounds t.Content t.Form t.Item OneAlternative OneCase t.Expr OneField argument_step bounds_step content_step form_step
+    item_step alternative_step case_step expr_step field_step
 
 unfoldable pub view : TExpr → t.Expr
-view = fold-TExpr OneArgument t.Bounds t.Content t.Form t.Item OneAlternative OneCase t.Expr OneField argument_step bounds_step content_step form_step item_step alternative_step case_step expr_step field_step
+view = fold-TExpr OneArgument t.Bounds t.Content t.Form t.Item OneAlternative OneCase t.Expr OneField argument_step bounds_step content_step form_step item_step
+    alternative_step case_step expr_step field_step
 
 unfoldable pub field_view : TField → OneField
-field_view = fold-TField OneArgument t.Bounds t.Content t.Form t.Item OneAlternative OneCase t.Expr OneField argument_step bounds_step content_step form_step item_step alternative_step case_step expr_step field_step
+field_view = fold-TField OneArgument t.Bounds t.Content t.Form t.Item OneAlternative OneCase t.Expr OneField argument_step bounds_step content_step form_step
+    item_step alternative_step case_step expr_step field_step
 
 abbrev pub exprs_view : List TExpr → t.Exprs
 exprs_view xs = exprs_of (map view xs)

@@ -34,7 +34,8 @@ impl Built {
     /// After one more item, which gave this value.
     #[tactic(auto, using(crate::proofs::Layers::layers))]
     pub fn add(&mut self, alloc: Global, item: &TItem, value: &Rc<Shared>) -> Result<(), NoMemory>
-        ensures { OnOk result (built_view self.new ≡ with_part (item_view item.now) (rc_view value.now) (built_view self.old)) }
+        ensures { OnOk result (built_view self.new
+            ≡ with_part (item_view item.now) (rc_view value.now) (built_view self.old)) }
     {
         match item {
             TItem::Plain(_) => {
@@ -81,7 +82,8 @@ fn add_part(
     label: &Bytes,
     value: &Rc<Shared>,
 ) -> Result<(), NoMemory>
-    ensures { OnOk result (parts_view parts.new.items ≡ add_field (parts_view parts.old.items) label.now (rc_view value.now)) }
+    ensures { OnOk result (parts_view parts.new.items
+        ≡ add_field (parts_view parts.old.items) label.now (rc_view value.now)) }
 {
     let part = part_of(alloc, label, value)?;
     parts.push(part)?;

@@ -38,7 +38,8 @@ pub fn denote(alloc: Global, entry: &TDecl, input: &[u8]) -> Result<Answer, NoMe
 #[tactic(auto, using(crate::proofs::Answering::telling))]
 fn told_at(alloc: Global, entry: &TDecl, input: &[u8]) -> Result<Answer, NoMemory>
     requires { IsSimple (view entry.now.body) 0 }
-    ensures told { IfOk result (λ answer. told (cut entry.now.span (meant input.now (view entry.now.body) empty 0)) ≡ Some (answer_view answer)) }
+    ensures told { IfOk result (λ answer. told (cut entry.now.span (meant input.now (view entry.now.body) empty 0))
+        ≡ Some (answer_view answer)) }
     ensures unsaid { IfOk result (λ answer. IsUnsaid answer.closing) }
 {
     let mut scope = Vec::new(alloc);
@@ -54,7 +55,8 @@ fn told_at(alloc: Global, entry: &TDecl, input: &[u8]) -> Result<Answer, NoMemor
 
 #[tactic(auto, using(crate::proofs::Answering::telling))]
 fn one_parse(alloc: Global, input: &[u8], name: Span, given: Parsed) -> Result<Answer, NoMemory>
-    ensures told { IfOk result (λ answer. told (cut name (parsed (rc_view given.value) (stream_at input.now given.at))) ≡ Some (answer_view answer)) }
+    ensures told { IfOk result (λ answer. told (cut name (parsed (rc_view given.value) (stream_at input.now given.at)))
+        ≡ Some (answer_view answer)) }
     ensures unsaid { IfOk result (λ answer. IsUnsaid answer.closing) }
 {
     let mut parses = Vec::new(alloc);
@@ -78,7 +80,8 @@ fn one_parse(alloc: Global, input: &[u8], name: Span, given: Parsed) -> Result<A
 #[tactic(auto, using(crate::proofs::Answering::telling))]
 fn no_parse(alloc: Global, failure: Failure) -> Answer
     requires { is_said failure.why ≡ false }
-    ensures told { (name : Span) → told (cut name (missed failure.why (source_of failure.in_input) failure.at failure.span)) ≡ Some (answer_view result) }
+    ensures told { (name : Span) → told (cut name
+        (missed failure.why (source_of failure.in_input) failure.at failure.span)) ≡ Some (answer_view result) }
     ensures unsaid { IsUnsaid result.closing }
 {
     Answer {

@@ -1,6 +1,7 @@
 ghost use Rattle.std.specs.Prelude.{◌≡◌, IfOk, OnOk, length, take, true};
 ghost use Rattle.ddl_typed.specs.Blocks.{bound, nothing_built};
-ghost use Rattle.ddl_typed.specs.Evaluated.{Gives, IsTextOf, byte_at, end_at, matched, meant, meant_item, meant_items, rc_view, scope_view, simple_value_of};
+ghost use Rattle.ddl_typed.specs.Evaluated.{Gives, IsTextOf, byte_at, end_at, matched, meant, meant_item, meant_items};
+ghost use Rattle.ddl_typed.specs.Evaluated.{rc_view, scope_view, simple_value_of};
 ghost use Rattle.ddl_typed.specs.Simple.{AreSimple, IsSimple, IsSimpleItem, IsSimpleValue, IsText, names_after};
 ghost use Rattle.ddl_ops.specs.Valued.{counts, gives};
 ghost use Rattle.ddl_typed.specs.View.{item_view, items_view, view};
@@ -66,7 +67,8 @@ fn eval_items(
     at: usize,
 ) -> Result<Parsed, Stop>
     requires { AreSimple (items_view items.now) (length scope.old.items) }
-    ensures gives { Gives input.now (meant_items input.now (items_view items.now) (scope_view scope.old.items) nothing_built at) result }
+    ensures gives { Gives input.now (meant_items input.now (items_view items.now) (scope_view scope.old.items)
+        nothing_built at) result }
     ensures below { OnOk result (take (length scope.old.items) scope.new.items ≡ scope.old.items) }
 {
     let mut built = Built::new(alloc);
@@ -118,7 +120,8 @@ fn eval_item(
 #[tactic(auto, using(crate::proofs::Layers::layers, crate::proofs::Items::scopes))]
 fn bind(item: &TItem, value: &Rc<Shared>, scope: &mut Vec<Rc<Shared>>) -> Result<(), NoMemory>
     requires { IsSimpleItem (item_view item.now) (length scope.old.items) }
-    ensures bound { OnOk result (scope_view scope.new.items ≡ bound (item_view item.now) (rc_view value.now) (scope_view scope.old.items)) }
+    ensures bound { OnOk result (scope_view scope.new.items
+        ≡ bound (item_view item.now) (rc_view value.now) (scope_view scope.old.items)) }
     ensures names { OnOk result (length scope.new.items ≡ names_after (item_view item.now) (length scope.old.items)) }
     ensures below { OnOk result (take (length scope.old.items) scope.new.items ≡ scope.old.items) }
 {
@@ -139,7 +142,8 @@ fn bind(item: &TItem, value: &Rc<Shared>, scope: &mut Vec<Rc<Shared>>) -> Result
 #[tactic(auto, using(crate::proofs::Layers::layers, crate::proofs::SharedLayers::shared_layers, crate::proofs::Items::scopes))]
 fn simple_value(alloc: Global, expr: &TExpr, scope: &[Rc<Shared>]) -> Result<Rc<Shared>, NoMemory>
     requires { IsSimpleValue (view expr.now) (length scope.now) }
-    ensures { IfOk result (λ value. simple_value_of (view expr.now) (scope_view scope.now) ≡ counts (gives (rc_view value))) }
+    ensures { IfOk result (λ value. simple_value_of (view expr.now) (scope_view scope.now)
+        ≡ counts (gives (rc_view value))) }
 {
     match &expr.form {
         TForm::Text(bytes) => Ok(share(alloc, Shared::Bytes(bytes.get().to_vec(alloc)?))?),

@@ -33,7 +33,8 @@ map_length [] = refl
 map_length (c ∷ cs) = omega (arith, map_length cs)
 
 -- what holds of each condition of a list holds of the one that stands there
-pub condition_at : (cs : List Cond) (i : ℕ) (x : Cond) (n : ℕ) → i < length cs → x ≡ get_or cs i x → All (ConditionBelow n) (map cond_view cs) → ConditionBelow n (cond_view x)
+pub condition_at : (cs : List Cond) (i : ℕ) (x : Cond) (n : ℕ) → i < length cs → x ≡ get_or cs i x → All (ConditionBelow n) (map cond_view cs)
+    → ConditionBelow n (cond_view x)
 condition_at cs i x n h e b =
     let here : get_or (map cond_view cs) i (cond_view x) ≡ cond_view x = get_at cond_view cs i x (cond_view x) h e in
     subst (ConditionBelow n) here (b i (cond_view x) (omega (arith, h, map_length cs)))

@@ -1,7 +1,8 @@
 -- The laws of joining.
 use Rattle.std.proofs.Common.{◌≡◌, ◌+◌, List, [], ◌∷◌, ◌++◌, map, length, refl, ap, ◌∙◌, sym, arith}
 use Rattle.ddl_types.specs.Value.{Value, Stream}
-use Rattle.ddl_types.specs.Outcome.{Event, Tick, Miss, Parse, Outcome, Parsed, End, Faulted, Deep, Stuck, ends, tick, miss, parse, parsed, nothing_more, events, ending, ticks, parses, failures, unticked, after}
+use Rattle.ddl_types.specs.Outcome.{Event, Tick, Miss, Parse, Outcome, Parsed, End, Faulted, Deep, Stuck, ends, tick, miss, parse, parsed, nothing_more, events}
+use Rattle.ddl_types.specs.Outcome.{ending, ticks, parses, failures, unticked, after}
 use Rattle.ddl_types.specs.BestFailure.{best_failure, best_of}
 use Rattle.ddl_types.specs.Answer.{answer_of, answer_at}
 use Rattle.ddl_types.specs.Joining.{Both, Biased, Bind, Joined, leave}
@@ -215,4 +216,6 @@ failures_unticked (parse v s o) = failures_unticked o
 
 -- ticks have no part in the answer
 pub answer_unticked : (o : Outcome) → answer_of (unticked o) ≡ answer_of o
-answer_unticked o = ap (λ e. answer_at e (parses (unticked o)) (best_failure (unticked o))) (ending_unticked o) ∙ ap (λ ps. answer_at (ending o) ps (best_failure (unticked o))) (parses_unticked o) ∙ ap (λ fs. answer_at (ending o) (parses o) (best_of fs)) (failures_unticked o)
+answer_unticked o = ap (λ e. answer_at e (parses (unticked o)) (best_failure (unticked o))) (ending_unticked o)
+    ∙ ap (λ ps. answer_at (ending o) ps (best_failure (unticked o))) (parses_unticked o)
+    ∙ ap (λ fs. answer_at (ending o) (parses o) (best_of fs)) (failures_unticked o)

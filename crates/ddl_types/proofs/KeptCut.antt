@@ -39,7 +39,8 @@ module _ (t : Value → Bool) (name : Span) where
   abbrev cut_if : Bool → Value → Stream → Outcome → Outcome
   cut_if b v s o = if b then ends (Faulted DeepResult name) else parse v s o
 
-  marks-cut_if : (b : Bool) (x : ℕ) (v : Value) (s : Stream) (o : Outcome) (ms : List Mark) → marks x o ≡ ms → marks x (cut_if b v s o) ≡ keep_if b (mark_of x v s) ms
+  marks-cut_if : (b : Bool) (x : ℕ) (v : Value) (s : Stream) (o : Outcome) (ms : List Mark) → marks x o ≡ ms
+      → marks x (cut_if b v s o) ≡ keep_if b (mark_of x v s) ms
   marks-cut_if true x v s o ms e = refl
   marks-cut_if false x v s o ms e = ap (λ k. mark_of x v s ∷ k) e
 
@@ -53,7 +54,8 @@ module _ (t : Value → Bool) (name : Span) where
   end_if None e = e
   end_if (Some x) e = Faulted DeepResult name
 
-  end-cut_if : (b : Bool) (x : ℕ) (v : Value) (s : Stream) (o p : Outcome) (k : Option ℕ) → ending o ≡ end_if k (ending p) → ending (cut_if b v s o) ≡ end_if (stop_if b x k) (ending p)
+  end-cut_if : (b : Bool) (x : ℕ) (v : Value) (s : Stream) (o p : Outcome) (k : Option ℕ) → ending o ≡ end_if k (ending p)
+      → ending (cut_if b v s o) ≡ end_if (stop_if b x k) (ending p)
   end-cut_if true x v s o p k e = refl
   end-cut_if false x v s o p k e = e
 
@@ -67,7 +69,8 @@ module _ (t : Value → Bool) (name : Span) where
   cost_if None y = y
   cost_if (Some x) y = x
 
-  cost-cut_if : (b : Bool) (x y : ℕ) (v : Value) (s : Stream) (o : Outcome) (k : Option ℕ) → x + ticks o ≡ cost_if k y → x + ticks (cut_if b v s o) ≡ cost_if (stop_if b x k) y
+  cost-cut_if : (b : Bool) (x y : ℕ) (v : Value) (s : Stream) (o : Outcome) (k : Option ℕ) → x + ticks o ≡ cost_if k y
+      → x + ticks (cut_if b v s o) ≡ cost_if (stop_if b x k) y
   cost-cut_if true x y v s o k e = omega arith
   cost-cut_if false x y v s o k e = e
 
@@ -80,14 +83,16 @@ module _ (t : Value → Bool) (name : Span) where
   cost-cut x (miss why source at span o) = cost-cut x o
   cost-cut x (parse v s o) = cost-cut_if (t v) x (x + ticks o) v s (cut o) _ (cost-cut x o)
 
-  within_if : (b : Bool) (c : ℕ) (m m' : Mark) (l l' : List Mark) → m.event ≡ m'.event → m'.ticks ≤ c * m.ticks → StartsWithin c l l' → StartsWithin c (keep_if b m l) (keep_if b m' l')
+  within_if : (b : Bool) (c : ℕ) (m m' : Mark) (l l' : List Mark) → m.event ≡ m'.event → m'.ticks ≤ c * m.ticks → StartsWithin c l l'
+      → StartsWithin c (keep_if b m l) (keep_if b m' l')
   within_if true c m m' l l' e f r = tt
   within_if false c m m' l l' e f r = (e, f, r)
 
   within_cut : (c : ℕ) (a b : List Mark) → StartsWithin c a b → StartsWithin c (cut_marks a) (cut_marks b)
   within_cut c [] b p = tt
   within_cut c (m ∷ a) [] p = absurd p
-  within_cut c (m ∷ a) (m' ∷ b) p = subst (λ z. StartsWithin c (keep_if (is_cut m.event) m (cut_marks a)) (keep_if z m' (cut_marks b))) (ap is_cut p.0) (within_if (is_cut m.event) c m m' _ _ p.0 p.1 (within_cut c a b p.2))
+  within_cut c (m ∷ a) (m' ∷ b) p = subst (λ z. StartsWithin c (keep_if (is_cut m.event) m (cut_marks a)) (keep_if z m' (cut_marks b))) (ap is_cut p.0)
+      (within_if (is_cut m.event) c m m' _ _ p.0 p.1 (within_cut c a b p.2))
 
   starts_if : (b : Bool) (m m' : Mark) (l l' : List Mark) → m.event ≡ m'.event → StartsWith l l' → StartsWith (keep_if b m l) (keep_if b m' l')
   starts_if true m m' l l' e r = tt
@@ -96,7 +101,8 @@ module _ (t : Value → Bool) (name : Span) where
   starts_cut : (a b : List Mark) → StartsWith a b → StartsWith (cut_marks a) (cut_marks b)
   starts_cut [] b p = tt
   starts_cut (m ∷ a) [] p = absurd p
-  starts_cut (m ∷ a) (m' ∷ b) p = subst (λ z. StartsWith (keep_if (is_cut m.event) m (cut_marks a)) (keep_if z m' (cut_marks b))) (ap is_cut p.0) (starts_if (is_cut m.event) m m' _ _ p.0 (starts_cut a b p.1))
+  starts_cut (m ∷ a) (m' ∷ b) p = subst (λ z. StartsWith (keep_if (is_cut m.event) m (cut_marks a)) (keep_if z m' (cut_marks b))) (ap is_cut p.0)
+      (starts_if (is_cut m.event) m m' _ _ p.0 (starts_cut a b p.1))
 
   -- where the first list is cut, the second is cut there too, and nothing stands before it
   record CutThere (c x : ℕ) (a b : List Mark) : Type 0 where
@@ -105,7 +111,8 @@ module _ (t : Value → Bool) (name : Span) where
     cost : y ≤ c * x
     same : StartsWith (cut_marks b) (cut_marks a)
 
-  cut_there_if : (z : Bool) (c x : ℕ) (m m' : Mark) (a b : List Mark) → is_cut m.event ≡ z → is_cut m'.event ≡ z → m.event ≡ m'.event → m'.ticks ≤ c * m.ticks → stop_if z m.ticks (stop a) ≡ Some x → (stop a ≡ Some x → CutThere c x a b) → CutThere c x (m ∷ a) (m' ∷ b)
+  cut_there_if : (z : Bool) (c x : ℕ) (m m' : Mark) (a b : List Mark) → is_cut m.event ≡ z → is_cut m'.event ≡ z → m.event ≡ m'.event → m'.ticks ≤ c * m.ticks
+      → stop_if z m.ticks (stop a) ≡ Some x → (stop a ≡ Some x → CutThere c x a b) → CutThere c x (m ∷ a) (m' ∷ b)
   cut_there_if true c x m m' a b e e' q f h r =
       let mx : m.ticks ≡ x = cc in
       record {
@@ -120,7 +127,8 @@ module _ (t : Value → Bool) (name : Span) where
         y = i.y;
         there = ap (λ z. stop_if z m'.ticks (stop b)) e' ∙ i.there;
         cost = i.cost;
-        same = subst (λ z. StartsWith (keep_if z m' (cut_marks b)) (keep_if (is_cut m.event) m (cut_marks a))) (sym e') (subst (λ z. StartsWith (m' ∷ cut_marks b) (keep_if z m (cut_marks a))) (sym e) (sym q, i.same));
+        same = subst (λ z. StartsWith (keep_if z m' (cut_marks b)) (keep_if (is_cut m.event) m (cut_marks a))) (sym e')
+            (subst (λ z. StartsWith (m' ∷ cut_marks b) (keep_if z m (cut_marks a))) (sym e) (sym q, i.same));
       }
 
   cut_there : (c x : ℕ) (a b : List Mark) → StartsWithin c a b → stop a ≡ Some x → CutThere c x a b
@@ -135,7 +143,8 @@ module _ (t : Value → Bool) (name : Span) where
   not_there : (a b : List Mark) → StartsWith b a → stop a ≡ None → stop b ≡ None
   not_there a [] p h = refl
   not_there [] (m ∷ b) p h = absurd p
-  not_there (m ∷ a) (m' ∷ b) p h = subst (λ z. stop_if z m'.ticks (stop b) ≡ None) (ap is_cut (sym p.0)) (not_there_if (is_cut m.event) m.ticks m'.ticks (stop a) (stop b) (not_there a b p.1) h)
+  not_there (m ∷ a) (m' ∷ b) p h = subst (λ z. stop_if z m'.ticks (stop b) ≡ None) (ap is_cut (sym p.0))
+      (not_there_if (is_cut m.event) m.ticks m'.ticks (stop a) (stop b) (not_there a b p.1) h)
 
   -- the same where ticks do not matter
   record StartsThere (a b : List Mark) : Type 0 where
@@ -143,7 +152,8 @@ module _ (t : Value → Bool) (name : Span) where
     there : stop b ≡ Some y
     same : StartsWith (cut_marks b) (cut_marks a)
 
-  starts_there_if : (z : Bool) (x : ℕ) (m m' : Mark) (a b : List Mark) → is_cut m.event ≡ z → is_cut m'.event ≡ z → m.event ≡ m'.event → stop_if z m.ticks (stop a) ≡ Some x → (stop a ≡ Some x → StartsThere a b) → StartsThere (m ∷ a) (m' ∷ b)
+  starts_there_if : (z : Bool) (x : ℕ) (m m' : Mark) (a b : List Mark) → is_cut m.event ≡ z → is_cut m'.event ≡ z → m.event ≡ m'.event
+      → stop_if z m.ticks (stop a) ≡ Some x → (stop a ≡ Some x → StartsThere a b) → StartsThere (m ∷ a) (m' ∷ b)
   starts_there_if true x m m' a b e e' q h r =
       record {
         y = m'.ticks;
@@ -155,7 +165,8 @@ module _ (t : Value → Bool) (name : Span) where
       record {
         y = i.y;
         there = ap (λ z. stop_if z m'.ticks (stop b)) e' ∙ i.there;
-        same = subst (λ z. StartsWith (keep_if z m' (cut_marks b)) (keep_if (is_cut m.event) m (cut_marks a))) (sym e') (subst (λ z. StartsWith (m' ∷ cut_marks b) (keep_if z m (cut_marks a))) (sym e) (sym q, i.same));
+        same = subst (λ z. StartsWith (keep_if z m' (cut_marks b)) (keep_if (is_cut m.event) m (cut_marks a))) (sym e')
+            (subst (λ z. StartsWith (m' ∷ cut_marks b) (keep_if z m (cut_marks a))) (sym e) (sym q, i.same));
       }
 
   starts_there : (x : ℕ) (a b : List Mark) → StartsWith a b → stop a ≡ Some x → StartsThere a b
@@ -170,8 +181,10 @@ module _ (t : Value → Bool) (name : Span) where
         let nb : ending a ≢ Deep → stop (marks 0 b) ≡ None = λ h. not_there (marks 0 a) (marks 0 b) (f.no_more h) e in
         let live : ending (cut a) ≢ Deep → ending a ≢ Deep = λ h g. h (ea ∙ g) in
         record {
-          events = subst (λ l. StartsWithin c l (marks 0 (cut b))) (sym (marks-cut 0 a)) (subst (λ l. StartsWithin c (cut_marks (marks 0 a)) l) (sym (marks-cut 0 b)) (within_cut c _ _ f.events));
-          no_more = λ h. subst (λ l. StartsWith l (marks 0 (cut a))) (sym (marks-cut 0 b)) (subst (λ l. StartsWith (cut_marks (marks 0 b)) l) (sym (marks-cut 0 a)) (starts_cut _ _ (f.no_more (live h))));
+          events = subst (λ l. StartsWithin c l (marks 0 (cut b))) (sym (marks-cut 0 a))
+              (subst (λ l. StartsWithin c (cut_marks (marks 0 a)) l) (sym (marks-cut 0 b)) (within_cut c _ _ f.events));
+          no_more = λ h. subst (λ l. StartsWith l (marks 0 (cut a))) (sym (marks-cut 0 b))
+              (subst (λ l. StartsWith (cut_marks (marks 0 b)) l) (sym (marks-cut 0 a)) (starts_cut _ _ (f.no_more (live h))));
           end = λ h. end-cut 0 b ∙ ap (λ o. end_if o (ending b)) (nb (live h)) ∙ f.end (live h) ∙ sym ea;
           cost = λ h.
               let x : 0 + ticks (cut a) ≡ 0 + ticks a = cost-cut 0 a ∙ ap (λ o. cost_if o (0 + ticks a)) e in
@@ -183,8 +196,10 @@ module _ (t : Value → Bool) (name : Span) where
     follows_cut (Some x) e f =
         let i = cut_there c x (marks 0 a) (marks 0 b) f.events e in
         record {
-          events = subst (λ l. StartsWithin c l (marks 0 (cut b))) (sym (marks-cut 0 a)) (subst (λ l. StartsWithin c (cut_marks (marks 0 a)) l) (sym (marks-cut 0 b)) (within_cut c _ _ f.events));
-          no_more = λ h. subst (λ l. StartsWith l (marks 0 (cut a))) (sym (marks-cut 0 b)) (subst (λ l. StartsWith (cut_marks (marks 0 b)) l) (sym (marks-cut 0 a)) i.same);
+          events = subst (λ l. StartsWithin c l (marks 0 (cut b))) (sym (marks-cut 0 a))
+              (subst (λ l. StartsWithin c (cut_marks (marks 0 a)) l) (sym (marks-cut 0 b)) (within_cut c _ _ f.events));
+          no_more = λ h. subst (λ l. StartsWith l (marks 0 (cut a))) (sym (marks-cut 0 b))
+              (subst (λ l. StartsWith (cut_marks (marks 0 b)) l) (sym (marks-cut 0 a)) i.same);
           end = λ h. end-cut 0 b ∙ ap (λ o. end_if o (ending b)) i.there ∙ sym (end-cut 0 a ∙ ap (λ o. end_if o (ending a)) e);
           cost = λ h.
               let xa : 0 + ticks (cut a) ≡ x = cost-cut 0 a ∙ ap (λ o. cost_if o (0 + ticks a)) e in
@@ -199,15 +214,19 @@ module _ (t : Value → Bool) (name : Span) where
         let eb : ending (cut b) ≡ ending b = end-cut 0 b ∙ ap (λ o. end_if o (ending b)) e in
         let live : ending (cut b) ≢ Deep → ending b ≢ Deep = λ h g. h (eb ∙ g) in
         record {
-          events = subst (λ l. StartsWith l (marks 0 (cut a))) (sym (marks-cut 0 b)) (subst (λ l. StartsWith (cut_marks (marks 0 b)) l) (sym (marks-cut 0 a)) (starts_cut _ _ f.events));
-          no_more = λ h. subst (λ l. StartsWith l (marks 0 (cut b))) (sym (marks-cut 0 a)) (subst (λ l. StartsWith (cut_marks (marks 0 a)) l) (sym (marks-cut 0 b)) (starts_cut _ _ (f.no_more (live h))));
+          events = subst (λ l. StartsWith l (marks 0 (cut a))) (sym (marks-cut 0 b))
+              (subst (λ l. StartsWith (cut_marks (marks 0 b)) l) (sym (marks-cut 0 a)) (starts_cut _ _ f.events));
+          no_more = λ h. subst (λ l. StartsWith l (marks 0 (cut b))) (sym (marks-cut 0 a))
+              (subst (λ l. StartsWith (cut_marks (marks 0 a)) l) (sym (marks-cut 0 b)) (starts_cut _ _ (f.no_more (live h))));
           end = λ h. end-cut 0 a ∙ ap (λ o. end_if o (ending a)) (not_there (marks 0 b) (marks 0 a) (f.no_more (live h)) e) ∙ f.end (live h) ∙ sym eb;
         }
     covers_cut (Some y) e f =
         let i = starts_there y (marks 0 b) (marks 0 a) f.events e in
         record {
-          events = subst (λ l. StartsWith l (marks 0 (cut a))) (sym (marks-cut 0 b)) (subst (λ l. StartsWith (cut_marks (marks 0 b)) l) (sym (marks-cut 0 a)) (starts_cut _ _ f.events));
-          no_more = λ h. subst (λ l. StartsWith l (marks 0 (cut b))) (sym (marks-cut 0 a)) (subst (λ l. StartsWith (cut_marks (marks 0 a)) l) (sym (marks-cut 0 b)) i.same);
+          events = subst (λ l. StartsWith l (marks 0 (cut a))) (sym (marks-cut 0 b))
+              (subst (λ l. StartsWith (cut_marks (marks 0 b)) l) (sym (marks-cut 0 a)) (starts_cut _ _ f.events));
+          no_more = λ h. subst (λ l. StartsWith l (marks 0 (cut b))) (sym (marks-cut 0 a))
+              (subst (λ l. StartsWith (cut_marks (marks 0 a)) l) (sym (marks-cut 0 b)) i.same);
           end = λ h. end-cut 0 a ∙ ap (λ o. end_if o (ending a)) i.there ∙ sym (end-cut 0 b ∙ ap (λ o. end_if o (ending b)) e);
         }
 

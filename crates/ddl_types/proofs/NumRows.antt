@@ -6,7 +6,8 @@ use Rattle.ddl_types.specs.Num.{in_range, modulo_width}
 uint_8_ends : (in_range (Ty.Uint 8) (pos 255) ≡ true) × (in_range (Ty.Uint 8) (pos 256) ≡ false) × (in_range (Ty.Uint 8) (negsuc 0) ≡ false)
 uint_8_ends = (refl, refl, refl)
 
-sint_8_ends : (in_range (Ty.Sint 8) (pos 127) ≡ true) × (in_range (Ty.Sint 8) (pos 128) ≡ false) × (in_range (Ty.Sint 8) (negsuc 127) ≡ true) × (in_range (Ty.Sint 8) (negsuc 128) ≡ false)
+sint_8_ends : (in_range (Ty.Sint 8) (pos 127) ≡ true) × (in_range (Ty.Sint 8) (pos 128) ≡ false) × (in_range (Ty.Sint 8) (negsuc 127) ≡ true)
+    × (in_range (Ty.Sint 8) (negsuc 128) ≡ false)
 sint_8_ends = (refl, refl, refl, refl)
 
 sint_1_ends : (in_range (Ty.Sint 1) (pos 0) ≡ true) × (in_range (Ty.Sint 1) (pos 1) ≡ false) × (in_range (Ty.Sint 1) (negsuc 0) ≡ true)
@@ -18,5 +19,6 @@ int_ends = (refl, refl)
 cut_to_uint_8 : (modulo_width (Ty.Uint 8) (pos 300) ≡ pos 44) × (modulo_width (Ty.Uint 8) (negsuc 0) ≡ pos 255)
 cut_to_uint_8 = (refl, refl)
 
-cut_to_sint_8 : (modulo_width (Ty.Sint 8) (pos 200) ≡ negsuc 55) × (modulo_width (Ty.Sint 8) (pos 127) ≡ pos 127) × (modulo_width (Ty.Sint 8) (negsuc 128) ≡ pos 127)
+cut_to_sint_8 : (modulo_width (Ty.Sint 8) (pos 200) ≡ negsuc 55) × (modulo_width (Ty.Sint 8) (pos 127) ≡ pos 127)
+    × (modulo_width (Ty.Sint 8) (negsuc 128) ≡ pos 127)
 cut_to_sint_8 = (refl, refl, refl)

@@ -4,8 +4,10 @@ use Rattle.std.specs.Prelude.{pos}
 use Rattle.ddl_types.specs.Layout.{Layout, Con, Parts, no_cons, one_of, named_con, no_parts, part, fixed, free, inner, upper, lower, con_fits}
 use Rattle.ddl_types.specs.Plain.{Printable, Printables, IsPaired, ArePaired, count}
 use Rattle.ddl_types.specs.Plain as p
-use Rattle.ddl_types.specs.PlainOf.{part_names, under_name, if_named, plain_bits, plain_con, plain_parts, plain_of, plain_values, plain_fields, plain_keys, plain_entries, names_of}
-use Rattle.ddl_types.specs.Value.{Value, Values, Fields, Pairs, number, bitdata, boolean, unit, nothing, just, fields, tagged, array, mapping, stream, no_values, value, no_fields, field, no_pairs, pair}
+use Rattle.ddl_types.specs.PlainOf.{part_names, under_name, if_named, plain_bits, plain_con, plain_parts, plain_of, plain_values, plain_fields, plain_keys}
+use Rattle.ddl_types.specs.PlainOf.{plain_entries, names_of}
+use Rattle.ddl_types.specs.Value.{Value, Values, Fields, Pairs, number, bitdata, boolean, unit, nothing, just, fields, tagged, array, mapping, stream}
+use Rattle.ddl_types.specs.Value.{no_values, value, no_fields, field, no_pairs, pair}
 
 names_counted : (fs : Fields) → length (names_of fs) ≡ count (plain_fields fs)
 names_counted no_fields = refl

@@ -59,7 +59,8 @@ pub fn apply_cond(alloc: Global, cond: &Cond, args: &[Ty]) -> Result<Cond, NoMem
 
 fn apply_conds(alloc: Global, conds: &[Cond], args: &[Ty]) -> Result<Vec<Cond>, NoMemory>
     requires below { All (ConditionBelow (length args.now)) (map cond_view conds.now) }
-    ensures { IfOk result (λ v. map cond_view v.items ≡ map (on_condition (arguments (map ty_view args.now))) (map cond_view conds.now)) }
+    ensures { IfOk result (λ v. map cond_view v.items
+        ≡ map (on_condition (arguments (map ty_view args.now))) (map cond_view conds.now)) }
 {
     let mut applied = Vec::new(alloc);
     for cond in conds {
@@ -74,7 +75,8 @@ pub fn instance(alloc: Global, scheme: &Scheme, args: &[Ty]) -> Result<Instance,
     requires of_below { Below (ty_view scheme.now.of) (length args.now) }
     requires conds_below { All (ConditionBelow (length args.now)) (map cond_view scheme.now.conds.items) }
     ensures of { IfOk result (λ i. ty_view i.of ≡ on (ty_view scheme.now.of) (arguments (map ty_view args.now))) }
-    ensures conds { IfOk result (λ i. map cond_view i.conds.items ≡ map (on_condition (arguments (map ty_view args.now))) (map cond_view scheme.now.conds.items)) }
+    ensures conds { IfOk result (λ i. map cond_view i.conds.items
+        ≡ map (on_condition (arguments (map ty_view args.now))) (map cond_view scheme.now.conds.items)) }
 {
     Ok(Instance {
         of: apply(alloc, &scheme.of, args)?,

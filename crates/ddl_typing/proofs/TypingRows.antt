@@ -96,9 +96,11 @@ float_type = refl
 -- ---- `def Main = ^ ((1 : int) as uint 8)`: an `int` may have no room in a byte
 
 abbrev cast_number : TypedGroup
-cast_number = alone [] (ex.Pure (ex.Cast cast.Lossless (ex.Paren (ex.Num (number 1 1 15 16)) (Some (w.Int (place 19 22))) (place 14 23)) (uint_type 8 1 27 32 33) (place 14 33)) (place 11 34))
+cast_number = alone [] (ex.Pure (ex.Cast cast.Lossless (ex.Paren (ex.Num (number 1 1 15 16)) (Some (w.Int (place 19 22))) (place 14 23))
+    (uint_type 8 1 27 32 33) (place 14 33)) (place 11 34))
 
-cast_number_asks : cast_number.asks ≡ wants (var 0) byte (place 11 34) ∷ asks_for (lossless (con int none) byte) (place 14 33) ∷ wants (con int none) (var 1) (place 15 16) ∷ asks_for (lit 1 (var 1)) (place 15 16) ∷ []
+cast_number_asks : cast_number.asks ≡ wants (var 0) byte (place 11 34) ∷ asks_for (lossless (con int none) byte) (place 14 33)
+    ∷ wants (con int none) (var 1) (place 15 16) ∷ asks_for (lit 1 (var 1)) (place 15 16) ∷ []
 cast_number_asks = refl
 
 cast_number_false : Judged no_shapes (on_demand (always byte) (condition (lossless (con int none) byte))) (false_for (not_lossless (con int none) byte))
@@ -109,15 +111,18 @@ cast_number_false = Rattle.ddl_judging.specs.Judging.IsEqual.never (λ f e. let 
 abbrev one_case : TypedGroup
 one_case = alone (use_at 40 41 (Local (place 23 24)) ∷ [])
     (ex.Block (ex.an_item (ex.Let (name (codes "b") 23 24) (ex.True (place 27 31)) (place 19 31))
-    (ex.an_item (ex.Plain (ex.Pure (ex.Case (ex.Lower (name (codes "b") 40 41)) (ex.an_alt (p.True (place 47 51)) (ex.Num (number 1 1 55 56)) (place 47 56) ex.no_alts) (place 35 58)) (place 33 58)))
+    (ex.an_item (ex.Plain (ex.Pure (ex.Case (ex.Lower (name (codes "b") 40 41))
+    (ex.an_alt (p.True (place 47 51)) (ex.Num (number 1 1 55 56)) (place 47 56) ex.no_alts) (place 35 58)) (place 33 58)))
     ex.no_items)) (place 11 60))
 
-one_case_asks : one_case.asks ≡ wants (var 0) (var 1) (place 11 60) ∷ wants (con bool none) (con bool none) (place 47 51) ∷ asks_for (lit 1 (var 1)) (place 55 56) ∷ []
+one_case_asks : one_case.asks ≡ wants (var 0) (var 1) (place 11 60) ∷ wants (con bool none) (con bool none) (place 47 51)
+    ∷ asks_for (lit 1 (var 1)) (place 55 56) ∷ []
 one_case_asks = refl
 
 one_case_tree : one_case.trees ≡
     t.expr (t.block (t.item (t.let_ 0 (t.expr (t.pure (t.expr (t.truth true) (con bool none) (place 27 31))) (con bool none) (place 27 31)))
-    (t.item (t.plain (t.expr (t.pure (t.expr (t.case_ (t.expr (t.local 0) (con bool none) (place 40 41)) (t.when (pattern.Truth true) (t.expr (t.literal 1) (var 1) (place 55 56)) t.no_cases)) (var 1) (place 35 58))) (var 1) (place 33 58)))
+    (t.item (t.plain (t.expr (t.pure (t.expr (t.case_ (t.expr (t.local 0) (con bool none) (place 40 41))
+    (t.when (pattern.Truth true) (t.expr (t.literal 1) (var 1) (place 55 56)) t.no_cases)) (var 1) (place 35 58))) (var 1) (place 33 58)))
     t.no_items))) (var 1) (place 11 60) ∷ []
 one_case_tree = refl
 
@@ -132,7 +137,8 @@ one_case_gap = refl
 -- ---- `def Main = (true + 1) is foo`: the tag is asked at the whole form, before what its subject asks
 
 abbrev tag_of_sum : TypedGroup
-tag_of_sum = alone [] (ex.Is (ex.Paren (ex.Infix i.Add (ex.True (place 12 16)) (ex.Num (number 1 1 19 20)) (place 12 20)) None (place 11 21)) (h.IsTag (name (codes "foo") 25 28)) (place 11 28))
+tag_of_sum = alone [] (ex.Is (ex.Paren (ex.Infix i.Add (ex.True (place 12 16)) (ex.Num (number 1 1 19 20)) (place 12 20)) None (place 11 21))
+    (h.IsTag (name (codes "foo") 25 28)) (place 11 28))
 
 tag_of_sum_asks : tag_of_sum.asks ≡ wants (var 0) (var 2) (place 11 28) ∷ asks_for (tag (con bool none) (codes "foo") (var 2)) (place 11 28)
     ∷ asks_for (num (con bool none)) (place 12 20) ∷ wants (con bool none) (var 1) (place 19 20) ∷ asks_for (lit 1 (var 1)) (place 19 20) ∷ []
@@ -158,11 +164,20 @@ abbrev of_number : Known
 of_number = record { vars = 2; kinds = k.Value ∷ []; params = var 0 ∷ []; of = con array_of (more (var 1) none); conditions = num (var 0) ∷ [] }
 
 abbrev call : TypedGroup
-call = elaborated_group (record { locals = []; of = var 0; header = []; uses = use_at 11 12 (Decl 0) ∷ []; tree = ex.CallValue (name (codes "f") 11 12) (ex.an_expr (ex.Num (number 1 1 13 14)) ex.no_exprs) (place 11 14) } ∷ [])
+call = elaborated_group (record {
+  locals = [];
+  of = var 0;
+  header = [];
+  uses = use_at 11 12 (Decl 0) ∷ [];
+  tree =
+      ex.CallValue (name (codes "f") 11 12) (ex.an_expr (ex.Num (number 1 1 13 14)) ex.no_exprs) (place 11 14);
+} ∷ [])
     (λ d. of_number) (record { uses = []; next = 1; places = []; texts = []; sites = 0 })
 
-call_asks : call.asks ≡ wants (var 0) (con array_of (more (var 2) none)) (place 11 14) ∷ asks_for (num (var 1)) (place 11 14) ∷ wants (var 1) (var 3) (place 13 14) ∷ asks_for (lit 1 (var 3)) (place 13 14) ∷ []
+call_asks : call.asks ≡ wants (var 0) (con array_of (more (var 2) none)) (place 11 14) ∷ asks_for (num (var 1)) (place 11 14)
+    ∷ wants (var 1) (var 3) (place 13 14) ∷ asks_for (lit 1 (var 3)) (place 13 14) ∷ []
 call_asks = refl
 
-call_tree : call.trees ≡ t.expr (t.value_call 0 (t.by_type 0 (var 1) (t.by_type 1 (var 2) (t.by_value 0 (t.expr (t.literal 1) (var 3) (place 13 14)) t.no_args)))) (con array_of (more (var 2) none)) (place 11 14) ∷ []
+call_tree : call.trees ≡ t.expr (t.value_call 0 (t.by_type 0 (var 1)
+    (t.by_type 1 (var 2) (t.by_value 0 (t.expr (t.literal 1) (var 3) (place 13 14)) t.no_args)))) (con array_of (more (var 2) none)) (place 11 14) ∷ []
 call_tree = refl

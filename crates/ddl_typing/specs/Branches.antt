@@ -67,10 +67,22 @@ no_more_cases v z = record { cases = t.no_cases; of = v; asks = []; state = z }
 
 -- all alternatives have the type of the first one
 abbrev pub first_case : Pat → Ty → Env → Ty → Typed → TypedCases → TypedCases
-first_case q u env c l r = record { cases = t.when (pattern_form q env) (tree_of l) r.cases; of = l.of; asks = pattern_asks q u c ++ l.asks ++ r.asks; state = r.state }
+first_case q u env c l r = record {
+  cases = t.when (pattern_form q env) (tree_of l) r.cases;
+  of = l.of;
+  asks = pattern_asks q u c ++ l.asks ++ r.asks;
+  state =
+      r.state;
+}
 
 abbrev pub one_case : Pat → Ty → Ty → Env → Ty → Typed → TypedCases → TypedCases
-one_case q u v env c l r = record { cases = t.when (pattern_form q env) (tree_of l) r.cases; of = v; asks = pattern_asks q u c ++ wants v l.of l.at ∷ l.asks ++ r.asks; state = r.state }
+one_case q u v env c l r = record {
+  cases = t.when (pattern_form q env) (tree_of l) r.cases;
+  of = v;
+  asks =
+      pattern_asks q u c ++ wants v l.of l.at ∷ l.asks ++ r.asks;
+  state = r.state;
+}
 
 abbrev pub a_case : Span → Typed → TypedCases → Typed
 a_case s l r = typed (t.case_ (tree_of l) r.cases) r.of s (l.asks ++ r.asks) r.state
@@ -110,7 +122,8 @@ guard_type (h.IsJust s) c = c
 guard_type q c = unit_type
 
 abbrev pub a_guard : Shape → Span → Typed → Ty → Typed
-a_guard q s l c = typed (t.is_ (tree_of l) (guard_form q)) (guard_type q c) s (guard_before q l.of c s ++ l.asks ++ guard_behind q l.of c) (after_variables (guard_vars q) l.state)
+a_guard q s l c = typed (t.is_ (tree_of l) (guard_form q)) (guard_type q c) s (guard_before q l.of c s ++ l.asks ++ guard_behind q l.of c)
+    (after_variables (guard_vars q) l.state)
 
 -- ---- turns
 
@@ -120,4 +133,5 @@ a_fold ns env inner s i l k v b = typed (t.for_ (length env.locals) (tree_of i) 
     (asks_for (loops l.of k v) s ∷ i.asks ++ l.asks ++ wants i.of b.of b.at ∷ b.asks) b.state
 
 abbrev pub a_map : Names → Env → Span → Typed → Ty → Ty → Ty → Typed → Typed
-a_map ns env s l k v r b = typed (t.map_ (turn_binder ns.second env) (tree_of l) (tree_of b)) r s (demands (gather l.of k v b.of r) s ∷ l.asks ++ b.asks) b.state
+a_map ns env s l k v r b = typed (t.map_ (turn_binder ns.second env) (tree_of l) (tree_of b)) r s (demands (gather l.of k v b.of r) s ∷ l.asks ++ b.asks)
+    b.state

@@ -33,7 +33,12 @@ abbrev pub one_bound : (t.Expr → t.Bounds) → Typed → TypedBounds
 one_bound f l = record { bounds = f (tree_of l); asks = wants (word 64) l.of l.at ∷ l.asks; state = l.state }
 
 abbrev pub two_bounds : Typed → Typed → TypedBounds
-two_bounds l r = record { bounds = t.between (tree_of l) (tree_of r); asks = wants (word 64) l.of l.at ∷ l.asks ++ wants (word 64) r.of r.at ∷ r.asks; state = r.state }
+two_bounds l r = record {
+  bounds = t.between (tree_of l) (tree_of r);
+  asks = wants (word 64) l.of l.at ∷ l.asks ++ wants (word 64) r.of r.at ∷ r.asks;
+  state =
+      r.state;
+}
 
 abbrev pub a_repetition : Bias → Span → TypedBounds → Typed → Typed
 a_repetition o s n l = typed (t.many (choice_of o) n.bounds (tree_of l)) (array l.of) s (n.asks ++ l.asks) l.state
@@ -76,7 +81,13 @@ abbrev pub let_item : Want → ℕ → Typed → TypedItems → TypedItems
 let_item want n l r = record r { items = t.item (t.let_ n (lifted want l)) r.items; asks = l.asks ++ r.asks }
 
 abbrev pub field_item : Want → Name → ℕ → Typed → TypedItems → TypedItems
-field_item want x n l r = record r { items = t.item (t.field x.text n (lifted want l)) r.items; names = x.text ∷ r.names; types = l.of ∷ r.types; asks = l.asks ++ r.asks }
+field_item want x n l r = record r {
+  items = t.item (t.field x.text n (lifted want l)) r.items;
+  names = x.text ∷ r.names;
+  types = l.of ∷ r.types;
+  asks =
+      l.asks ++ r.asks;
+}
 
 abbrev pub plain_item : Typed → TypedItems → TypedItems
 plain_item l r = record r { items = t.item (t.plain (tree_of l)) r.items; asks = l.asks ++ r.asks }

@@ -9,17 +9,22 @@ use Rattle.ddl_tree.specs.ExprTree as ex
 use Rattle.ddl_tree.specs.TypeTree as y
 use Rattle.ddl_types.specs.Types.{Ty, Ty.var, Ty.con, Tys.none, Sub, Head.int, Head.uint, Head.sint}
 use Rattle.ddl_typed.specs.Tree as t
-use Rattle.ddl_rules.specs.Asks.{Env, Known, State, after_variables, after_use, bound_next, with_value, unit_type, bool_type, stream_type, array, maybe, map_type}
+use Rattle.ddl_rules.specs.Asks.{Env, Known, State, after_variables, after_use, bound_next, with_value, unit_type, bool_type, stream_type, array, maybe}
+use Rattle.ddl_rules.specs.Asks.{map_type}
 use Rattle.ddl_rules.specs.ClassForms.{class_made, named_class}
 use Rattle.ddl_rules.specs.Operators.{typing}
 use Rattle.ddl_rules.specs.Patterns.{with_names}
 use Rattle.ddl_rules.specs.Writing.{sized}
 use Rattle.ddl_typing.specs.Typed.{Typed, TypedAll, TypedNamed, TypedItems, TypedArgs, TypedCases, TypedBounds, TypedType, first_type, rest_types}
 use Rattle.ddl_typing.specs.Operators.{infix_vars, an_infix, a_prefix, a_cast}
-use Rattle.ddl_typing.specs.Values.{a_number, a_character, a_text, a_truth, a_nothing, some_just, a_selection, some_parens, some_typed_parens, no_parts, first_part, no_more, one_more, an_array, no_members, one_member, a_record, a_tag, a_union}
-use Rattle.ddl_typing.specs.Grammars.{some_pure, some_optional, no_bounds, one_bound, two_bounds, a_repetition, a_choice, a_tagged_choice, no_more_items, result_item, let_item, field_item, plain_item, a_block}
-use Rattle.ddl_typing.specs.Branches.{an_if, pattern_vars, pattern_env, no_cases, no_more_cases, first_case, one_case, a_case, guard_vars, a_guard, a_fold, a_map}
-use Rattle.ddl_typing.specs.Names.{target, no_arguments, wanted_at, next_kind, rest_kinds, before_argument, class_argument, an_argument, behind_argument, texts_of, a_named, a_class, of_bound, bound_vars, a_type, OneClass}
+use Rattle.ddl_typing.specs.Values.{a_number, a_character, a_text, a_truth, a_nothing, some_just, a_selection, some_parens, some_typed_parens, no_parts}
+use Rattle.ddl_typing.specs.Values.{first_part, no_more, one_more, an_array, no_members, one_member, a_record, a_tag, a_union}
+use Rattle.ddl_typing.specs.Grammars.{some_pure, some_optional, no_bounds, one_bound, two_bounds, a_repetition, a_choice, a_tagged_choice, no_more_items}
+use Rattle.ddl_typing.specs.Grammars.{result_item, let_item, field_item, plain_item, a_block}
+use Rattle.ddl_typing.specs.Branches.{an_if, pattern_vars, pattern_env, no_cases, no_more_cases, first_case, one_case, a_case, guard_vars, a_guard, a_fold}
+use Rattle.ddl_typing.specs.Branches.{a_map}
+use Rattle.ddl_typing.specs.Names.{target, no_arguments, wanted_at, next_kind, rest_kinds, before_argument, class_argument, an_argument, behind_argument}
+use Rattle.ddl_typing.specs.Names.{texts_of, a_named, a_class, of_bound, bound_vars, a_type, OneClass}
 
 -- so many types of a map, from the n-th on
 abbrev pub types_from : Sub → ℕ → ℕ → List Ty

@@ -11,7 +11,8 @@ use Rattle.ddl_tree.specs.ExprTree as ex
 use Rattle.ddl_types.specs.Types.{Ty, Sub, on, arguments}
 use Rattle.ddl_types.specs.Conditions.{Condition, on_condition}
 use Rattle.ddl_typed.specs.Tree as t
-use Rattle.ddl_rules.specs.Asks.{Ask, Env, Known, Local, State, asks_for, wants, unit_type, word, local_at, bound_next, after_use, after_site, with_text, unknown}
+use Rattle.ddl_rules.specs.Asks.{Ask, Env, Known, Local, State, asks_for, wants, unit_type, word, local_at, bound_next, after_use, after_site, with_text}
+use Rattle.ddl_rules.specs.Asks.{unknown}
 use Rattle.ddl_rules.specs.BuiltInTypes.{builtin_form, builtin_row}
 use Rattle.ddl_rules.specs.ClassForms.{class_made, named_class}
 use Rattle.ddl_typing.specs.Typed.{Typed, TypedArgs, TypedType, typed, tree_of}
@@ -28,7 +29,14 @@ condition_at zero us c = c
 condition_at (suc n) us c = on_condition (arguments us) c
 
 abbrev pub builtin_known : BuiltIn → Known
-builtin_known x = record { vars = (builtin_row x 0).vars; kinds = []; params = (builtin_row x 0).params; of = (builtin_row x 0).of; conditions = (builtin_row x 0).conditions }
+builtin_known x = record {
+  vars = (builtin_row x 0).vars;
+  kinds = [];
+  params = (builtin_row x 0).params;
+  of = (builtin_row x 0).of;
+  conditions =
+      (builtin_row x 0).conditions;
+}
 
 abbrev pub local_known : Option Local → Known
 local_known None = unknown
@@ -81,8 +89,20 @@ class_argument e env z = record { class = t.class_parameter 0; asks = []; state 
 -- an argument of a kind, number i, of which this type is wanted: a class, a grammar at a place of its own, or a value
 abbrev pub an_argument : Kind → ℕ → Ty → ℕ → OneClass → Typed → TypedArgs → TypedArgs
 an_argument k.Class i u n c l r = record { args = t.by_class i c.class r.args; values = r.values; asks = c.asks ++ r.asks; state = r.state }
-an_argument k.Grammar i u n c l r = record { args = t.by_grammar i (site n) (tree_of l) r.args; values = r.values; asks = wants u l.of l.at ∷ l.asks ++ r.asks; state = r.state }
-an_argument kind i u n c l r = record { args = t.by_value i (tree_of l) r.args; values = tree_of l ∷ r.values; asks = wants u l.of l.at ∷ l.asks ++ r.asks; state = r.state }
+an_argument k.Grammar i u n c l r = record {
+  args = t.by_grammar i (site n) (tree_of l) r.args;
+  values = r.values;
+  asks =
+      wants u l.of l.at ∷ l.asks ++ r.asks;
+  state = r.state;
+}
+an_argument kind i u n c l r = record {
+  args = t.by_value i (tree_of l) r.args;
+  values = tree_of l ∷ r.values;
+  asks =
+      wants u l.of l.at ∷ l.asks ++ r.asks;
+  state = r.state;
+}
 
 -- what is left behind an argument
 abbrev pub behind_argument : Kind → OneClass → Typed → State

@@ -90,7 +90,16 @@ abbrev pub named_on : TypedNamed → Sub → TypedNamed
 named_on m f = record { trees = trees_on m.trees f; names = m.names; types = types_on m.types f; asks = asks_on m.asks f; state = state_on m.state f }
 
 abbrev pub items_on : TypedItems → Sub → TypedItems
-items_on m f = record { items = retyped_items m.items (λ u. on u f); result = option_on m.result f; names = m.names; types = types_on m.types f; last = on m.last f; asks = asks_on m.asks f; state = state_on m.state f }
+items_on m f = record {
+  items = retyped_items m.items (λ u. on u f);
+  result = option_on m.result f;
+  names = m.names;
+  types = types_on m.types f;
+  last =
+      on m.last f;
+  asks = asks_on m.asks f;
+  state = state_on m.state f;
+}
 
 abbrev pub args_on : TypedArgs → Sub → TypedArgs
 args_on m f = record { args = retyped_args m.args (λ u. on u f); values = trees_on m.values f; asks = asks_on m.asks f; state = state_on m.state f }

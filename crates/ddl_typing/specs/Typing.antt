@@ -9,16 +9,21 @@ use Rattle.ddl_tree.specs.ExprTree as ex
 use Rattle.ddl_tree.specs.TypeTree as y
 use Rattle.ddl_types.specs.Types.{Ty, Ty.con, Tys.none, Head.int, Head.uint, Head.sint}
 use Rattle.ddl_typed.specs.Tree as t
-use Rattle.ddl_rules.specs.Asks.{Env, Known, State, after_variables, after_use, bound_next, with_value, unit_type, bool_type, stream_type, array, maybe, map_type}
+use Rattle.ddl_rules.specs.Asks.{Env, Known, State, after_variables, after_use, bound_next, with_value, unit_type, bool_type, stream_type, array, maybe}
+use Rattle.ddl_rules.specs.Asks.{map_type}
 use Rattle.ddl_rules.specs.Operators.{typing}
 use Rattle.ddl_rules.specs.Patterns.{with_names}
 use Rattle.ddl_rules.specs.Writing.{sized}
 use Rattle.ddl_typing.specs.Typed.{Typed, TypedAll, TypedNamed, TypedItems, TypedArgs, TypedCases, TypedBounds, TypedType, first_type, rest_types}
 use Rattle.ddl_typing.specs.Operators.{infix_vars, an_infix, a_prefix, a_cast}
-use Rattle.ddl_typing.specs.Values.{a_number, a_character, a_text, a_truth, a_nothing, some_just, a_selection, some_parens, some_typed_parens, no_parts, first_part, no_more, one_more, an_array, no_members, one_member, a_record, a_tag, a_union}
-use Rattle.ddl_typing.specs.Grammars.{some_pure, some_optional, no_bounds, one_bound, two_bounds, a_repetition, a_choice, a_tagged_choice, no_more_items, result_item, let_item, field_item, plain_item, a_block}
-use Rattle.ddl_typing.specs.Branches.{an_if, pattern_vars, pattern_env, no_cases, no_more_cases, first_case, one_case, a_case, guard_vars, a_guard, a_fold, a_map}
-use Rattle.ddl_typing.specs.Names.{target, no_arguments, wanted_at, next_kind, rest_kinds, before_argument, class_argument, an_argument, behind_argument, texts_of, a_named, a_class, of_bound, bound_vars, a_type}
+use Rattle.ddl_typing.specs.Values.{a_number, a_character, a_text, a_truth, a_nothing, some_just, a_selection, some_parens, some_typed_parens, no_parts}
+use Rattle.ddl_typing.specs.Values.{first_part, no_more, one_more, an_array, no_members, one_member, a_record, a_tag, a_union}
+use Rattle.ddl_typing.specs.Grammars.{some_pure, some_optional, no_bounds, one_bound, two_bounds, a_repetition, a_choice, a_tagged_choice, no_more_items}
+use Rattle.ddl_typing.specs.Grammars.{result_item, let_item, field_item, plain_item, a_block}
+use Rattle.ddl_typing.specs.Branches.{an_if, pattern_vars, pattern_env, no_cases, no_more_cases, first_case, one_case, a_case, guard_vars, a_guard, a_fold}
+use Rattle.ddl_typing.specs.Branches.{a_map}
+use Rattle.ddl_typing.specs.Names.{target, no_arguments, wanted_at, next_kind, rest_kinds, before_argument, class_argument, an_argument, behind_argument}
+use Rattle.ddl_typing.specs.Names.{texts_of, a_named, a_class, of_bound, bound_vars, a_type}
 
 -- so many types, any ones
 abbrev pub AreTypes : ℕ → List Ty → Type 0
@@ -52,7 +57,8 @@ abbrev mutual
   -- a form has this typing; each type that a rule leaves free is any type
   pub Typing : ex.Expr → Env → State → Typed → Type 0
   Typing (ex.Infix o a b s) env z m =
-      (l : Typed) × Typing a env z l × ((r : Typed) × Typing b env l.state r × ((us : List Ty) × AreTypes (infix_vars (typing o)) us × (m ≡ an_infix (typing o) s l r (first_type us))))
+      (l : Typed) × Typing a env z l × ((r : Typed) × Typing b env l.state r
+      × ((us : List Ty) × AreTypes (infix_vars (typing o)) us × (m ≡ an_infix (typing o) s l r (first_type us))))
   Typing (ex.Pure a s) env z m = (l : Typed) × Typing a env z l × (m ≡ some_pure s l)
   Typing (ex.If c a b s) env z m =
       (test : Typed) × Typing c env z test
@@ -71,11 +77,13 @@ abbrev mutual
       (l : Typed) × Typing a env z l × ((r : TypedType) × Writing env.known u l.state r × (m ≡ a_cast o s l r))
   Typing (ex.CallGrammar x xs s) env z m =
       (us : List Ty) × AreTypes (target (bound_next z.uses) env).vars us
-      × ((r : TypedArgs) × TypingArgs xs 0 (target (bound_next z.uses) env).kinds (wanted_at (target (bound_next z.uses) env) us) env (after_variables (target (bound_next z.uses) env).vars (after_use z)) r
+      × ((r : TypedArgs) × TypingArgs xs 0 (target (bound_next z.uses) env).kinds (wanted_at (target (bound_next z.uses) env) us) env
+      (after_variables (target (bound_next z.uses) env).vars (after_use z)) r
       × (m ≡ a_named (bound_next z.uses) k.Grammar s (texts_of xs) env us r))
   Typing (ex.CallValue x xs s) env z m =
       (us : List Ty) × AreTypes (target (bound_next z.uses) env).vars us
-      × ((r : TypedArgs) × TypingArgs xs 0 (target (bound_next z.uses) env).kinds (wanted_at (target (bound_next z.uses) env) us) env (after_variables (target (bound_next z.uses) env).vars (after_use z)) r
+      × ((r : TypedArgs) × TypingArgs xs 0 (target (bound_next z.uses) env).kinds (wanted_at (target (bound_next z.uses) env) us) env
+      (after_variables (target (bound_next z.uses) env).vars (after_use z)) r
       × (m ≡ a_named (bound_next z.uses) k.Value s (texts_of xs) env us r))
   Typing (ex.Just a s) env z m = (l : Typed) × Typing a env z l × (m ≡ some_just s l)
   Typing (ex.Many o n a s) env z m =

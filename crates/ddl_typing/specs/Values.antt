@@ -83,7 +83,14 @@ abbrev pub no_members : State → TypedNamed
 no_members z = record { trees = []; names = []; types = []; asks = []; state = z }
 
 abbrev pub one_member : Bool → Want → Name → Typed → TypedNamed → TypedNamed
-one_member free want x l r = record { trees = member free want l ∷ r.trees; names = x.text ∷ r.names; types = l.of ∷ r.types; asks = l.asks ++ r.asks; state = r.state }
+one_member free want x l r = record {
+  trees = member free want l ∷ r.trees;
+  names = x.text ∷ r.names;
+  types = l.of ∷ r.types;
+  asks = l.asks ++ r.asks;
+  state =
+      r.state;
+}
 
 abbrev pub fields : List (List ℕ) → List t.Expr → t.Named
 fields (x ∷ xs) (e ∷ es) = t.named x e (fields xs es)

@@ -1,5 +1,6 @@
 -- What is remembered of the compared pairs stays true.
-use Rattle.std.proofs.Common.{◌≡◌, ℕ, ◌+◌, ◌≤◌, ◌<◌, List, [], ◌∷◌, ◌++◌, refl, sym, ap, ◌∙◌, arith, zero, suc, inl, inr, ◌⊎◌, length, drop, true, false, Bool, ◌&&◌, nat_eq, eqb-true, if◌then◌else◌, subst, length-append, Option, Some, None}
+use Rattle.std.proofs.Common.{◌≡◌, ℕ, ◌+◌, ◌≤◌, ◌<◌, List, [], ◌∷◌, ◌++◌, refl, sym, ap, ◌∙◌, arith, zero, suc, inl, inr, ◌⊎◌, length, drop, true, false, Bool}
+use Rattle.std.proofs.Common.{◌&&◌, nat_eq, eqb-true, if◌then◌else◌, subst, length-append, Option, Some, None}
 use Rattle.std.specs.Prelude.{MatchOption}
 use Rattle.std.proofs.lemmas.Bool.Decides.{leb_tells}
 use Rattle.std.proofs.lemmas.List.{drop-append-le, drop_all}
@@ -32,13 +33,15 @@ agrees_front a b f e h =
     agrees_under (bounds a) e.more f (subst P (ap bounds e.is ∙ onto_append [] a e.more) h)
 
 -- a pair whose equations are solved is equal under the bindings
-awaits_none : (p : Pending) (xs : List Bound) (es : List Equation) (f : Sub) → length es ≤ p.above → Awaits p xs es → Agrees f (bounds xs) → f p.left ≡ f p.right
+awaits_none : (p : Pending) (xs : List Bound) (es : List Equation) (f : Sub) → length es ≤ p.above → Awaits p xs es → Agrees f (bounds xs)
+    → f p.left ≡ f p.right
 awaits_none p xs es f n w a =
     let P : List Equation → Type 0 = λ z. Solves f z in
     w f a (subst P (sym (drop_all p.above es n)) tt)
 
 -- a step keeps what is awaited
-awaits_step : (p : Pending) (place : List ℕ) (xs : List Bound) (es : List Equation) (l r : Ty) (place2 : List ℕ) (xs2 : List Bound) (es2 : List Equation) → Extends xs xs2 → Step place xs es l r place2 xs2 es2 → Awaits p xs (es ++ equal l r ∷ []) → Awaits p xs2 es2
+awaits_step : (p : Pending) (place : List ℕ) (xs : List Bound) (es : List Equation) (l r : Ty) (place2 : List ℕ) (xs2 : List Bound) (es2 : List Equation)
+    → Extends xs xs2 → Step place xs es l r place2 xs2 es2 → Awaits p xs (es ++ equal l r ∷ []) → Awaits p xs2 es2
 awaits_step p place xs es l r place2 xs2 es2 e s w f a q =
     elim (leb_tells p.above (length es)) [
       | inl n ↦ (let k : p.above ≤ length es = n.1 in
@@ -48,31 +51,38 @@ awaits_step p place xs es l r place2 xs2 es2 e s w f a q =
       | inr n ↦ awaits_none p xs (es ++ equal l r ∷ []) f (omega (arith, n.1, length-append es (equal l r ∷ []))) w (agrees_front xs xs2 f e a)
     ]
 
-each_step : (ps : List Pending) (place : List ℕ) (xs : List Bound) (es : List Equation) (l r : Ty) (place2 : List ℕ) (xs2 : List Bound) (es2 : List Equation) → Extends xs xs2 → Step place xs es l r place2 xs2 es2 → EachAwaits ps xs (es ++ equal l r ∷ []) → EachAwaits ps xs2 es2
+each_step : (ps : List Pending) (place : List ℕ) (xs : List Bound) (es : List Equation) (l r : Ty) (place2 : List ℕ) (xs2 : List Bound) (es2 : List Equation)
+    → Extends xs xs2 → Step place xs es l r place2 xs2 es2 → EachAwaits ps xs (es ++ equal l r ∷ []) → EachAwaits ps xs2 es2
 each_step [] place xs es l r place2 xs2 es2 e s w = tt
-each_step (p ∷ ps) place xs es l r place2 xs2 es2 e s w = (awaits_step p place xs es l r place2 xs2 es2 e s w.0, each_step ps place xs es l r place2 xs2 es2 e s w.1)
+each_step (p ∷ ps) place xs es l r place2 xs2 es2 e s w =
+    (awaits_step p place xs es l r place2 xs2 es2 e s w.0, each_step ps place xs es l r place2 xs2 es2 e s w.1)
 
 -- and what is remembered
-pub remembers_step : (m : Compared) (place : List ℕ) (xs : List Bound) (es : List Equation) (l r : Ty) (place2 : List ℕ) (xs2 : List Bound) (es2 : List Equation) → Extends xs xs2 → Step place xs es l r place2 xs2 es2 → Remembers m xs (es ++ equal l r ∷ []) → Remembers m xs2 es2
+pub remembers_step : (m : Compared) (place : List ℕ) (xs : List Bound) (es : List Equation) (l r : Ty) (place2 : List ℕ) (xs2 : List Bound)
+    (es2 : List Equation) → Extends xs xs2 → Step place xs es l r place2 xs2 es2 → Remembers m xs (es ++ equal l r ∷ []) → Remembers m xs2 es2
 remembers_step m place xs es l r place2 xs2 es2 e s h = record {
   known = λ p k f a. h.known p k f (agrees_front xs xs2 f e a);
   pending = each_step m.pending.items place xs es l r place2 xs2 es2 e s h.pending;
 }
 
 -- an equation of variables that the bindings make equal says nothing
-pub step_known : (place : List ℕ) (xs : List Bound) (v w : ℕ) (es : List Equation) → ((f : Sub) → Agrees f (bounds xs) → f v ≡ f w) → EachBelow es (length place) → Step place xs es (var v) (var w) place xs es
+pub step_known : (place : List ℕ) (xs : List Bound) (v w : ℕ) (es : List Equation) → ((f : Sub) → Agrees f (bounds xs) → f v ≡ f w)
+    → EachBelow es (length place) → Step place xs es (var v) (var w) place xs es
 step_known place xs v w es k b = record {
   there = λ f a s e. (a, s);
   back = λ n m f a s. (a, s, k f a);
-  fewer = steps_less (zeros place) (weight (bounds xs) es) (weight (bounds xs) (equal (var v) (var w) ∷ es)) (omega (arith, size_some (solution (bounds xs) v)));
+  fewer = steps_less (zeros place) (weight (bounds xs) es) (weight (bounds xs) (equal (var v) (var w) ∷ es))
+      (omega (arith, size_some (solution (bounds xs) v)));
   below = b;
 }
 
-pub each_front : (ps : List Pending) (p : Pending) (xs : List Bound) (es : List Equation) → EachAwaits (ps ++ p ∷ []) xs es → EachAwaits ps xs es × Awaits p xs es
+pub each_front : (ps : List Pending) (p : Pending) (xs : List Bound) (es : List Equation) → EachAwaits (ps ++ p ∷ []) xs es
+    → EachAwaits ps xs es × Awaits p xs es
 each_front [] p xs es w = (tt, w.0)
 each_front (q ∷ ps) p xs es w = (let r = each_front ps p xs es w.1 in ((w.0, r.0), r.1))
 
-pub each_last : (ps : List Pending) (p : Pending) (xs : List Bound) (es : List Equation) → EachAwaits ps xs es → Awaits p xs es → EachAwaits (ps ++ p ∷ []) xs es
+pub each_last : (ps : List Pending) (p : Pending) (xs : List Bound) (es : List Equation) → EachAwaits ps xs es → Awaits p xs es
+    → EachAwaits (ps ++ p ∷ []) xs es
 each_last [] p xs es w h = (h, tt)
 each_last (q ∷ ps) p xs es w h = (w.0, each_last ps p xs es w.1 h)
 
@@ -89,19 +99,23 @@ pub on_true : (b : Bool) (P : Type 0) → OnTrue b P → b ≡ true → P
 on_true true P h e = h
 on_true false P h e = absurd (let q : false ≡ true = e in cc)
 
-pub knows_is : (b : Bool) (m : Compared) (v w : ℕ) → b ≡ contains same_pair m.known (v, w) → OnTrue b ((xs : List Bound) (es : List Equation) → Remembers m xs es → (f : Sub) → Agrees f (bounds xs) → f v ≡ f w)
+pub knows_is : (b : Bool) (m : Compared) (v w : ℕ) → b ≡ contains same_pair m.known (v, w)
+    → OnTrue b ((xs : List Bound) (es : List Equation) → Remembers m xs es → (f : Sub) → Agrees f (bounds xs) → f v ≡ f w)
 knows_is true m v w e = λ xs es h f a. h.known (v, w) (sym e) f a
 knows_is false m v w e = tt
 
 -- a pair more is awaited
-pub remembers_more : (m m2 : Compared) (p : Pending) (xs : List Bound) (es : List Equation) → m2.known ≡ m.known → m2.pending.items ≡ m.pending.items ++ p ∷ [] → Remembers m xs es → Awaits p xs es → Remembers m2 xs es
+pub remembers_more : (m m2 : Compared) (p : Pending) (xs : List Bound) (es : List Equation) → m2.known ≡ m.known → m2.pending.items ≡ m.pending.items ++ p ∷ []
+    → Remembers m xs es → Awaits p xs es → Remembers m2 xs es
 remembers_more m m2 p xs es k e h w = record {
   known = λ q i f a. h.known q (ap (λ z. contains same_pair z q) (sym k) ∙ i) f a;
   pending = (let P : List Pending → Type 0 = λ z. EachAwaits z xs es in subst P (sym e) (each_last m.pending.items p xs es h.pending w));
 }
 
 -- the last pair that was awaited is known
-pub remembers_settled : (m m2 : Compared) (p : Pending) (n : ℕ) (xs : List Bound) (es : List Equation) → m.pending.items ≡ m2.pending.items ++ p ∷ [] → KnownOne (contains same_pair m.known) (contains same_pair m2.known) (p.left, p.right) → n < p.above → length es ≤ n + 1 → Remembers m xs es → Remembers m2 xs es
+pub remembers_settled : (m m2 : Compared) (p : Pending) (n : ℕ) (xs : List Bound) (es : List Equation) → m.pending.items ≡ m2.pending.items ++ p ∷ []
+    → KnownOne (contains same_pair m.known) (contains same_pair m2.known) (p.left, p.right) → n < p.above → length es ≤ n + 1 → Remembers m xs es
+    → Remembers m2 xs es
 remembers_settled m m2 p n xs es e o l k h =
     let P : List Pending → Type 0 = λ z. EachAwaits z xs es in
     let w = each_front m2.pending.items p xs es (subst P e h.pending) in
@@ -114,21 +128,27 @@ remembers_settled m m2 p n xs es e o l k h =
     }
 
 -- an equation of what is known to be equal says nothing
-pub step_met : (m : Compared) (place : List ℕ) (xs : List Bound) (es es0 : List Equation) (l r : Ty) (v w : ℕ) → l ≡ var v → r ≡ var w → ((ys : List Bound) (ds : List Equation) → Remembers m ys ds → (f : Sub) → Agrees f (bounds ys) → f v ≡ f w) → Remembers m xs es0 → EachBelow es (length place) → Step place xs es l r place xs es
+pub step_met : (m : Compared) (place : List ℕ) (xs : List Bound) (es es0 : List Equation) (l r : Ty) (v w : ℕ) → l ≡ var v → r ≡ var w
+    → ((ys : List Bound) (ds : List Equation) → Remembers m ys ds → (f : Sub) → Agrees f (bounds ys) → f v ≡ f w) → Remembers m xs es0
+    → EachBelow es (length place) → Step place xs es l r place xs es
 step_met m place xs es es0 l r v w a b k h e =
     let P : Ty → Type 0 = λ x. Step place xs es x r place xs es in
     let Q : Ty → Type 0 = λ x. Step place xs es (var v) x place xs es in
     subst P (sym a) (subst Q (sym b) (step_known place xs v w es (k xs es0 h) e))
 
-pub remembers_met : (m : Compared) (place : List ℕ) (xs : List Bound) (es : List Equation) (l r : Ty) → Step place xs es l r place xs es → Remembers m xs (es ++ equal l r ∷ []) → Remembers m xs es
+pub remembers_met : (m : Compared) (place : List ℕ) (xs : List Bound) (es : List Equation) (l r : Ty) → Step place xs es l r place xs es
+    → Remembers m xs (es ++ equal l r ∷ []) → Remembers m xs es
 remembers_met m place xs es l r s h = remembers_step m place xs es l r place xs es (extends_same xs) s h
 
-pub stepped : (done : Bool) (m : Compared) (place : List ℕ) (xs : List Bound) (es : List Equation) (l r : Ty) (place2 : List ℕ) (xs2 : List Bound) (es2 : List Equation) → Extends xs xs2 → StepIs done place xs es l r place2 xs2 es2 → Remembers m xs (es ++ equal l r ∷ []) → OnTrue done (Remembers m xs2 es2)
+pub stepped : (done : Bool) (m : Compared) (place : List ℕ) (xs : List Bound) (es : List Equation) (l r : Ty) (place2 : List ℕ) (xs2 : List Bound)
+    (es2 : List Equation) → Extends xs xs2 → StepIs done place xs es l r place2 xs2 es2 → Remembers m xs (es ++ equal l r ∷ [])
+    → OnTrue done (Remembers m xs2 es2)
 stepped true m place xs es l r place2 xs2 es2 e s h = remembers_step m place xs es l r place2 xs2 es2 e s h
 stepped false m place xs es l r place2 xs2 es2 e s h = tt
 
 -- after a step two variables are equal once the equations that it left are solved
-pub step_awaits : (place : List ℕ) (xs : List Bound) (es : List Equation) (l r : Ty) (place2 : List ℕ) (xs2 : List Bound) (es2 : List Equation) (v w n : ℕ) → l ≡ var v → r ≡ var w → n ≤ length es → Step place xs es l r place2 xs2 es2 → (f : Sub) → Agrees f (bounds xs2) → Solves f (drop n es2) → f v ≡ f w
+pub step_awaits : (place : List ℕ) (xs : List Bound) (es : List Equation) (l r : Ty) (place2 : List ℕ) (xs2 : List Bound) (es2 : List Equation) (v w n : ℕ)
+    → l ≡ var v → r ≡ var w → n ≤ length es → Step place xs es l r place2 xs2 es2 → (f : Sub) → Agrees f (bounds xs2) → Solves f (drop n es2) → f v ≡ f w
 step_awaits place xs es l r place2 xs2 es2 v w n a b k s f h q =
     ap (λ x. on x f) (sym a) ∙ (s.back n k f h q).2 ∙ ap (λ x. on x f) b
 
@@ -149,7 +169,8 @@ pub none_clause : {A : Type 0} (o : Option A) (P : Type 0) (Q : A → Type 0) �
 none_clause None P Q h n = h
 none_clause (Some x) P Q h n = absurd (n x refl)
 
-pub remembers_like : (m m2 : Compared) (xs : List Bound) (es : List Equation) → m2.known ≡ m.known → m2.pending.items ≡ m.pending.items → Remembers m xs es → Remembers m2 xs es
+pub remembers_like : (m m2 : Compared) (xs : List Bound) (es : List Equation) → m2.known ≡ m.known → m2.pending.items ≡ m.pending.items → Remembers m xs es
+    → Remembers m2 xs es
 remembers_like m m2 xs es k e h = record {
   known = λ q i f a. h.known q (ap (λ z. contains same_pair z q) (sym k) ∙ i) f a;
   pending = (let P : List Pending → Type 0 = λ z. EachAwaits z xs es in subst P (sym e) h.pending);

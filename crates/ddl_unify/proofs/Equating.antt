@@ -14,10 +14,12 @@ use Rattle.ddl_unify.proofs.Steps.{solves_append, solves_front, solves_back}
 use Rattle.ddl_unify.proofs.Parts.{equations_last}
 
 -- an equation that no map which agrees with the bindings solves, beside those that the bindings say
-pub clash_none : (es : List Equation) (place : List ℕ) (xs : List Bound) (l r : Ty) → Holding es place xs → ApartUnder xs l r → Unsolvable (es ++ equal l r ∷ [])
+pub clash_none : (es : List Equation) (place : List ℕ) (xs : List Bound) (l r : Ty) → Holding es place xs → ApartUnder xs l r
+    → Unsolvable (es ++ equal l r ∷ [])
 clash_none es place xs l r h n f q = n f (h.there f (solves_front f es (equal l r ∷ []) q)) (solves_back f es (equal l r ∷ []) q).0
 
-pub holding_more : (es : List Equation) (place place2 : List ℕ) (xs xs2 : List Bound) (l r : Ty) → Holding es place xs → Kept place2 xs2 → Solved (bounds xs) (equal l r ∷ []) (bounds xs2) → Holding (es ++ equal l r ∷ []) place2 xs2
+pub holding_more : (es : List Equation) (place place2 : List ℕ) (xs xs2 : List Bound) (l r : Ty) → Holding es place xs → Kept place2 xs2
+    → Solved (bounds xs) (equal l r ∷ []) (bounds xs2) → Holding (es ++ equal l r ∷ []) place2 xs2
 holding_more es place place2 xs xs2 l r h k s = record {
   kept = k;
   there = λ f q. s.there f (h.there f (solves_front f es (equal l r ∷ []) q)) (solves_back f es (equal l r ∷ []) q);
@@ -31,12 +33,14 @@ holding_same es place place2 a b h u =
     record { kept = u.kept; there = subst P (sym u.same) h.there; back = subst Q (sym u.same) h.back }
 
 -- the equation that was pushed is the one that was given
-pub pushed : (ps ps2 : List Pair) (p : Pair) (l r : Ty) → ps2 ≡ ps ++ p ∷ [] → ty_view p.left ≡ l → ty_view p.right ≡ r → equations ps2 ≡ equations ps ++ equal l r ∷ []
+pub pushed : (ps ps2 : List Pair) (p : Pair) (l r : Ty) → ps2 ≡ ps ++ p ∷ [] → ty_view p.left ≡ l → ty_view p.right ≡ r
+    → equations ps2 ≡ equations ps ++ equal l r ∷ []
 pushed ps ps2 p l r e a b =
     let q : pair_view p ≡ equal l r = cc in
     equations_last ps ps2 p e ∙ ap (λ x. equations ps ++ x ∷ []) q
 
-pub holding_pushed : (es es2 : List Equation) (place place2 : List ℕ) (a b : List Bound) (l r : Ty) → Holding es place a → Fine place place2 a b × Solved (bounds a) (equal l r ∷ []) (bounds b) → es2 ≡ es ++ equal l r ∷ [] → Holding es2 place2 b
+pub holding_pushed : (es es2 : List Equation) (place place2 : List ℕ) (a b : List Bound) (l r : Ty) → Holding es place a
+    → Fine place place2 a b × Solved (bounds a) (equal l r ∷ []) (bounds b) → es2 ≡ es ++ equal l r ∷ [] → Holding es2 place2 b
 holding_pushed es es2 place place2 a b l r h s e =
     let Q : List Equation → Type 0 = λ z. Holding z place2 b in
     subst Q (sym e) (holding_more es place place2 a b l r h s.0.kept s.1)

@@ -1,5 +1,6 @@
 -- One more binding.
-use Rattle.std.proofs.Common.{◌≡◌, ℕ, ◌+◌, ◌-◌, ◌*◌, ◌≤◌, ◌<◌, List, [], ◌∷◌, ◌++◌, refl, sym, ap, ◌∙◌, arith, zero, suc, get_or, set, length, true, false, ◌||◌, Bool, inl, inr, append_assoc, length-append, ne_eqb, subst, None}
+use Rattle.std.proofs.Common.{◌≡◌, ℕ, ◌+◌, ◌-◌, ◌*◌, ◌≤◌, ◌<◌, List, [], ◌∷◌, ◌++◌, refl, sym, ap, ◌∙◌, arith, zero, suc, get_or, set, length, true, false}
+use Rattle.std.proofs.Common.{◌||◌, Bool, inl, inr, append_assoc, length-append, ne_eqb, subst, None}
 use Rattle.std.proofs.lemmas.Bool.Decides.{eqb_tells}
 use Rattle.std.proofs.lemmas.List.{get_or-set_same, get_or-set_other, length-set}
 use Rattle.ddl_types.specs.Types.{Ty, Tys, Ty.var, Ty.con, Tys.none, Tys.more, Sub, on, Below}
@@ -28,7 +29,8 @@ unbound_from bs (x ∷ xs) (suc k) v f u = unbound_from (bound_view x ∷ bs) xs
 
 -- a variable that is not bound has no place
 free_place : (place : List ℕ) (xs : List Bound) (v : ℕ) → Kept place xs → Unbound v (bounds xs) → get_or place v 0 ≡ 0
-free_place place xs v k u = elim (eqb_tells (get_or place v 0) 0) [ inl q ↦ q.1 | inr q ↦ absurd (unbound_from [] xs (get_or place v 0 - 1) v (k.bound v (get_or place v 0 - 1) (omega (arith, q.1))) u) ]
+free_place place xs v k u = elim (eqb_tells (get_or place v 0) 0)
+    [ inl q ↦ q.1 | inr q ↦ absurd (unbound_from [] xs (get_or place v 0 - 1) v (k.bound v (get_or place v 0 - 1) (omega (arith, q.1))) u) ]
 
 from_append : (xs : List Bound) (x : Bound) (k w : ℕ) → IsFrom k w xs → IsFrom k w (xs ++ x ∷ [])
 from_append [] x k w f = absurd f
@@ -80,7 +82,8 @@ mutual
   count_has_all none v e = refl
   count_has_all (more x ts) v e = ap (λ a. a || has_all ts v) (count_has x v (omega arith)) ∙ count_has_all ts v (omega arith)
 
-pub kept_more : (place : List ℕ) (xs xs2 : List Bound) (x : Bound) (m : ℕ) → xs2 ≡ xs ++ x ∷ [] → m ≡ length xs2 → Fits place xs x → Kept (set place x.from m) xs2
+pub kept_more : (place : List ℕ) (xs xs2 : List Bound) (x : Bound) (m : ℕ) → xs2 ≡ xs ++ x ∷ [] → m ≡ length xs2 → Fits place xs x
+    → Kept (set place x.from m) xs2
 kept_more place xs xs2 x m e em h =
     let e2 = bounds_more xs xs2 x e in
     let n : length xs2 ≡ suc (length xs) = omega (arith, ap length e, length-append xs (x ∷ [])) in
@@ -102,7 +105,8 @@ kept_more place xs xs2 x m e em h =
           subst P (sym (length-set place x.from m)) (subst Q (sym e2) (h.below, h.kept.below));
     }
 
-pub step_more : (place : List ℕ) (xs xs2 : List Bound) (x : Bound) (m : ℕ) (es : List Equation) → xs2 ≡ xs ++ x ∷ [] → m ≡ length xs2 → Fits place xs x → EachBelow es (length place) → Step place xs es (var x.from) (ty_view x.to) (set place x.from m) xs2 es
+pub step_more : (place : List ℕ) (xs xs2 : List Bound) (x : Bound) (m : ℕ) (es : List Equation) → xs2 ≡ xs ++ x ∷ [] → m ≡ length xs2 → Fits place xs x
+    → EachBelow es (length place) → Step place xs es (var x.from) (ty_view x.to) (set place x.from m) xs2 es
 step_more place xs xs2 x m es e em h eb =
     let e2 = bounds_more xs xs2 x e in
     let n : length xs2 ≡ suc (length xs) = omega (arith, ap length e, length-append xs (x ∷ [])) in
@@ -112,10 +116,14 @@ step_more place xs xs2 x m es e em h eb =
       there = λ f a s q. (let P : List Binding → Type 0 = λ b. Agrees f b in subst P (sym e2) (q, a), s);
       back = λ n k f a s. (let P : List Binding → Type 0 = λ b. Agrees f b in let y = subst P e2 a in (y.1, s, y.0));
       fewer =
-          let zs : zeros place ≡ suc (zeros (set place x.from m)) = zeros_set place x.from (length xs) h.within (free_place place xs x.from h.kept h.free) ∙ ap (λ i. suc (zeros (set place x.from i))) (sym mm) in
-          let w : weight (bounds xs2) es ≤ weight bs es * size (on (ty_view x.to) (solution bs)) = omega (arith, ap (λ b. weight b es) e2, weight_bound (bound_view x) bs es) in
-          let P : ℕ → Type 0 = λ u. steps (zeros (set place x.from m)) (weight (bounds xs2) es) < steps u (weight bs (equal (var x.from) (ty_view x.to) ∷ es)) in
-          subst P (sym zs) (steps_bind (zeros (set place x.from m)) (weight bs es) (size (on (ty_view x.to) (solution bs))) (weight (bounds xs2) es) (weight bs (equal (var x.from) (ty_view x.to) ∷ es)) (omega arith) (omega arith) w);
+          let zs : zeros place ≡ suc (zeros (set place x.from m)) = zeros_set place x.from (length xs) h.within (free_place place xs x.from h.kept h.free)
+          ∙ ap (λ i. suc (zeros (set place x.from i))) (sym mm) in
+          let w : weight (bounds xs2) es ≤ weight bs es * size (on (ty_view x.to) (solution bs)) =
+          omega (arith, ap (λ b. weight b es) e2, weight_bound (bound_view x) bs es) in
+          let P : ℕ → Type 0 = λ u. steps (zeros (set place x.from m)) (weight (bounds xs2) es) < steps u (weight bs (equal (var x.from) (ty_view x.to) ∷ es))
+          in
+          subst P (sym zs) (steps_bind (zeros (set place x.from m)) (weight bs es) (size (on (ty_view x.to) (solution bs))) (weight (bounds xs2) es)
+          (weight bs (equal (var x.from) (ty_view x.to) ∷ es)) (omega arith) (omega arith) w);
       below = eb;
     }
 
@@ -128,7 +136,8 @@ step_none place xs t es b = record {
   below = b;
 }
 
-pub step_flip : (done : Bool) (place : List ℕ) (xs : List Bound) (es : List Equation) (l r : Ty) (place2 : List ℕ) (xs2 : List Bound) (es2 : List Equation) → StepIs done place xs es l r place2 xs2 es2 → StepIs done place xs es r l place2 xs2 es2
+pub step_flip : (done : Bool) (place : List ℕ) (xs : List Bound) (es : List Equation) (l r : Ty) (place2 : List ℕ) (xs2 : List Bound) (es2 : List Equation)
+    → StepIs done place xs es l r place2 xs2 es2 → StepIs done place xs es r l place2 xs2 es2
 step_flip true place xs es l r place2 xs2 es2 s = record {
   there = λ f a h e. s.there f a h (sym e);
   back = λ n k f a h. (let q = s.back n k f a h in (q.0, q.1, sym q.2));
@@ -145,12 +154,14 @@ same_read : (xs : List Bound) (l k : Ty) (f : Sub) → Agrees f (bounds xs) → 
 same_read xs l k f a e = sym (read_then (bounds xs) l f a) ∙ ap (λ x. on x f) e ∙ read_then (bounds xs) k f a
 
 -- a step does not see which type stands on the left, as long as it is read alike
-pub step_like : (done : Bool) (place : List ℕ) (xs : List Bound) (es : List Equation) (l k r : Ty) (place2 : List ℕ) (xs2 : List Bound) (es2 : List Equation) → on l (solution (bounds xs)) ≡ on k (solution (bounds xs)) → StepIs done place xs es k r place2 xs2 es2 → StepIs done place xs es l r place2 xs2 es2
+pub step_like : (done : Bool) (place : List ℕ) (xs : List Bound) (es : List Equation) (l k r : Ty) (place2 : List ℕ) (xs2 : List Bound) (es2 : List Equation)
+    → on l (solution (bounds xs)) ≡ on k (solution (bounds xs)) → StepIs done place xs es k r place2 xs2 es2 → StepIs done place xs es l r place2 xs2 es2
 step_like true place xs es l k r place2 xs2 es2 e s = record {
   there = λ f a h q. s.there f a h (sym (same_read xs l k f a e) ∙ q);
   back = λ n m f a h. (let q = s.back n m f a h in (q.0, q.1, same_read xs l k f q.0 e ∙ q.2));
   fewer =
-      let w : weight (bounds xs) (equal k r ∷ es) ≡ weight (bounds xs) (equal l r ∷ es) = ap (λ x. size x + size (on r (solution (bounds xs))) + weight (bounds xs) es) (sym e) in
+      let w : weight (bounds xs) (equal k r ∷ es) ≡ weight (bounds xs) (equal l r ∷ es) =
+      ap (λ x. size x + size (on r (solution (bounds xs))) + weight (bounds xs) es) (sym e) in
       let P : ℕ → Type 0 = λ n. steps (zeros place2) (weight (bounds xs2) es2) < steps (zeros place) n in
       subst P w s.fewer;
   below = s.below;
@@ -158,7 +169,8 @@ step_like true place xs es l k r place2 xs2 es2 e s = record {
 step_like false place xs es l k r place2 xs2 es2 e s = λ f a q. s f a (sym (same_read xs l k f a e) ∙ q)
 
 -- a variable against a larger type that holds it has no solution
-pub step_held : (xs : List Bound) (v : ℕ) (t : Ty) → Unbound v (bounds xs) → (is_var (on t (solution (bounds xs))) ≡ None) → has (on t (solution (bounds xs))) v ≡ true → ApartUnder xs (var v) t
+pub step_held : (xs : List Bound) (v : ℕ) (t : Ty) → Unbound v (bounds xs) → (is_var (on t (solution (bounds xs))) ≡ None)
+    → has (on t (solution (bounds xs))) v ≡ true → ApartUnder xs (var v) t
 step_held xs v t u n h f a q =
     by_read (on t (solution (bounds xs))) n h (q ∙ sym (read_then (bounds xs) t f a))
   where
@@ -182,7 +194,8 @@ fine_same place xs k = record { kept = k; long = refl; extends = extends_same xs
 pub fine_then : (p p1 p2 : List ℕ) (a b c : List Bound) → Fine p p1 a b → Fine p1 p2 b c → Fine p p2 a c
 fine_then p p1 p2 a b c f g = record { kept = g.kept; long = g.long ∙ f.long; extends = extends_more a b c f.extends g.extends }
 
-pub fine_more : (place : List ℕ) (xs xs2 : List Bound) (x : Bound) (m : ℕ) → xs2 ≡ xs ++ x ∷ [] → m ≡ length xs2 → Fits place xs x → Fine place (set place x.from m) xs xs2
+pub fine_more : (place : List ℕ) (xs xs2 : List Bound) (x : Bound) (m : ℕ) → xs2 ≡ xs ++ x ∷ [] → m ≡ length xs2 → Fits place xs x
+    → Fine place (set place x.from m) xs xs2
 fine_more place xs xs2 x m e em h = record {
   kept = kept_more place xs xs2 x m e em h;
   long = length-set place x.from m;

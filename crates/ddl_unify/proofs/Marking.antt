@@ -1,5 +1,6 @@
 -- Which variables were read, and that none of them holds the one that is looked for.
-use Rattle.std.proofs.Common.{◌≡◌, ℕ, ◌+◌, ◌<◌, List, [], ◌∷◌, refl, sym, ap, ◌∙◌, arith, inl, inr, ◌⊎◌, map, take, length, get_or, zero, suc, true, false, ◌||◌, Bool, add-one, nat_eq, eqb-true, if◌then◌else◌}
+use Rattle.std.proofs.Common.{◌≡◌, ℕ, ◌+◌, ◌<◌, List, [], ◌∷◌, refl, sym, ap, ◌∙◌, arith, inl, inr, ◌⊎◌, map, take, length, get_or, zero, suc, true, false}
+use Rattle.std.proofs.Common.{◌||◌, Bool, add-one, nat_eq, eqb-true, if◌then◌else◌}
 use Rattle.ddl_types.specs.declared.ty.Ty as program
 use Rattle.ddl_types.specs.Types.{Head, Ty, Ty.var, Ty.con, Tys.none, Tys.more, Sub, on, tys_of}
 use Rattle.ddl_types.specs.TyView.{ty_view}
@@ -15,7 +16,8 @@ pub marks_none : (seen : ℕ → Bool) (xs : List Bound) (v : ℕ) → ((n : ℕ
 marks_none seen xs v h m e = let q = h m in absurd (let z : false ≡ true = sym q ∙ e in cc)
 
 -- a variable that was read without the one that is looked for may be marked
-pub marks_more : (seen seen2 : ℕ → Bool) (xs : List Bound) (v n : ℕ) → Marks seen xs v → MarkedOne seen seen2 n → has (on (var n) (solution (bounds xs))) v ≡ false → Marks seen2 xs v
+pub marks_more : (seen seen2 : ℕ → Bool) (xs : List Bound) (v n : ℕ) → Marks seen xs v → MarkedOne seen seen2 n
+    → has (on (var n) (solution (bounds xs))) v ≡ false → Marks seen2 xs v
 marks_more seen seen2 xs v n k o z m e = elim (o m e) [ inl q ↦ ap (λ i. has (solution (bounds xs) i) v) q ∙ z | inr q ↦ k m q ]
 
 -- one key more marks one variable more
@@ -44,15 +46,18 @@ pub has_list : (h : Head) (ts : List Ty) (f : Sub) (v : ℕ) → has (on (con h 
 has_list h [] f v = refl
 has_list h (t ∷ ts) f v = ap (λ b. has (on t f) v || b) (has_list h ts f v)
 
-pub list_next : (xs : List program.Ty) (i : ℕ) (x : program.Ty) (f : Sub) (v : ℕ) → i < length xs → x ≡ get_or xs i x → has (on (ty_view x) f) v ≡ false → list_has v f (map ty_view (take (i + 1) xs)) ≡ list_has v f (map ty_view (take i xs))
+pub list_next : (xs : List program.Ty) (i : ℕ) (x : program.Ty) (f : Sub) (v : ℕ) → i < length xs → x ≡ get_or xs i x → has (on (ty_view x) f) v ≡ false
+    → list_has v f (map ty_view (take (i + 1) xs)) ≡ list_has v f (map ty_view (take i xs))
 list_next xs i x f v h e z = rw (add-one i) (by_suc xs i h e)
   where
-    by_suc : (xs : List program.Ty) (i : ℕ) → i < length xs → x ≡ get_or xs i x → list_has v f (map ty_view (take (suc i) xs)) ≡ list_has v f (map ty_view (take i xs))
+    by_suc : (xs : List program.Ty) (i : ℕ) → i < length xs → x ≡ get_or xs i x
+        → list_has v f (map ty_view (take (suc i) xs)) ≡ list_has v f (map ty_view (take i xs))
     by_suc [] i h e = absurd (omega arith)
     by_suc (y ∷ xs) zero h e = ap (λ b. b || false) (sym (ap (λ (q : program.Ty). has (on (ty_view q) f) v) e) ∙ z)
     by_suc (y ∷ xs) (suc i) h e = ap (λ b. has (on (ty_view y) f) v || b) (by_suc xs i (omega arith) e)
 
-pub list_found : (xs : List program.Ty) (i : ℕ) (x : program.Ty) (f : Sub) (v : ℕ) → i < length xs → x ≡ get_or xs i x → has (on (ty_view x) f) v ≡ true → list_has v f (map ty_view xs) ≡ true
+pub list_found : (xs : List program.Ty) (i : ℕ) (x : program.Ty) (f : Sub) (v : ℕ) → i < length xs → x ≡ get_or xs i x → has (on (ty_view x) f) v ≡ true
+    → list_has v f (map ty_view xs) ≡ true
 list_found [] i x f v h e z = absurd (omega arith)
 list_found (y ∷ xs) zero x f v h e z = ap (λ b. b || list_has v f (map ty_view xs)) (sym (ap (λ (q : program.Ty). has (on (ty_view q) f) v) e) ∙ z)
 list_found (y ∷ xs) (suc i) x f v h e z = ap (λ b. has (on (ty_view y) f) v || b) (list_found xs i x f v (omega arith) e z) ∙ or_true (has (on (ty_view y) f) v)

@@ -1,5 +1,6 @@
 -- The variables of a type as it is written, and which of them stand in types that others were bound to.
-use Rattle.std.proofs.Common.{◌≡◌, ◌≢◌, ℕ, ◌+◌, ◌<◌, ◌≤◌, List, [], ◌∷◌, ◌++◌, refl, sym, ap, ◌∙◌, arith, inl, inr, zero, suc, map, take, length, length-append, get_or, set, true, false, ◌||◌, Bool, add-one, ne_eqb, subst}
+use Rattle.std.proofs.Common.{◌≡◌, ◌≢◌, ℕ, ◌+◌, ◌<◌, ◌≤◌, List, [], ◌∷◌, ◌++◌, refl, sym, ap, ◌∙◌, arith, inl, inr, zero, suc, map, take, length, length-append}
+use Rattle.std.proofs.Common.{get_or, set, true, false, ◌||◌, Bool, add-one, ne_eqb, subst}
 use Rattle.std.proofs.lemmas.Bool.Decides.{eqb_tells}
 use Rattle.std.proofs.lemmas.List.{get_or-set_same, get_or-set_other, length-set}
 use Rattle.ddl_types.specs.declared.ty.Ty as program
@@ -70,22 +71,27 @@ pub written_two : (h : Head) (x y : Ty) (v : ℕ) → has (con h (more x (more y
 written_two h x y v = ap (λ b. has x v || b) (or_false (has y v))
 
 -- a variable of one part of a list stands in the list
-pub written_in : (xs : List program.Ty) (i : ℕ) (x : program.Ty) (v : ℕ) → i < length xs → x ≡ get_or xs i x → has (ty_view x) v ≡ true → has_all (tys_of (map ty_view xs)) v ≡ true
+pub written_in : (xs : List program.Ty) (i : ℕ) (x : program.Ty) (v : ℕ) → i < length xs → x ≡ get_or xs i x → has (ty_view x) v ≡ true
+    → has_all (tys_of (map ty_view xs)) v ≡ true
 written_in [] i x v h e z = absurd (omega arith)
 written_in (y ∷ xs) zero x v h e z = ap (λ b. b || has_all (tys_of (map ty_view xs)) v) (sym (ap (λ (q : program.Ty). has (ty_view q) v) e) ∙ z)
 written_in (y ∷ xs) (suc i) x v h e z = ap (λ b. has (ty_view y) v || b) (written_in xs i x v (omega arith) e z) ∙ or_true (has (ty_view y) v)
 
 -- the variables of one part more
-pub written_next : (xs : List program.Ty) (i : ℕ) (x : program.Ty) (v : ℕ) → i < length xs → x ≡ get_or xs i x → has_all (tys_of (map ty_view (take (i + 1) xs))) v ≡ (has_all (tys_of (map ty_view (take i xs))) v || has (ty_view x) v)
+pub written_next : (xs : List program.Ty) (i : ℕ) (x : program.Ty) (v : ℕ) → i < length xs → x ≡ get_or xs i x
+    → has_all (tys_of (map ty_view (take (i + 1) xs))) v ≡ (has_all (tys_of (map ty_view (take i xs))) v || has (ty_view x) v)
 written_next xs i x v h e = rw (add-one i) (by_suc xs i h e)
   where
-    by_suc : (xs : List program.Ty) (i : ℕ) → i < length xs → x ≡ get_or xs i x → has_all (tys_of (map ty_view (take (suc i) xs))) v ≡ (has_all (tys_of (map ty_view (take i xs))) v || has (ty_view x) v)
+    by_suc : (xs : List program.Ty) (i : ℕ) → i < length xs → x ≡ get_or xs i x
+        → has_all (tys_of (map ty_view (take (suc i) xs))) v ≡ (has_all (tys_of (map ty_view (take i xs))) v || has (ty_view x) v)
     by_suc [] i h e = absurd (omega arith)
     by_suc (y ∷ xs) zero h e = or_false (has (ty_view y) v) ∙ sym (ap (λ (q : program.Ty). has (ty_view q) v) e)
-    by_suc (y ∷ xs) (suc i) h e = ap (λ b. has (ty_view y) v || b) (by_suc xs i (omega arith) e) ∙ or_same (has (ty_view y) v) (has_all (tys_of (map ty_view (take i xs))) v) (has (ty_view x) v)
+    by_suc (y ∷ xs) (suc i) h e = ap (λ b. has (ty_view y) v || b) (by_suc xs i (omega arith) e)
+        ∙ or_same (has (ty_view y) v) (has_all (tys_of (map ty_view (take i xs))) v) (has (ty_view x) v)
 
 -- each part of a list is below what the list is below
-pub below_in : (xs : List program.Ty) (i n : ℕ) (x : program.Ty) → i < length xs → x ≡ get_or xs i x → BelowAll (tys_of (map ty_view xs)) n → Below (ty_view x) n
+pub below_in : (xs : List program.Ty) (i n : ℕ) (x : program.Ty) → i < length xs → x ≡ get_or xs i x → BelowAll (tys_of (map ty_view xs)) n
+    → Below (ty_view x) n
 below_in [] i n x h e b = absurd (omega arith)
 below_in (y ∷ xs) zero n x h e b = let P : program.Ty → Type 0 = λ q. Below (ty_view q) n in subst P (sym e) b.0
 below_in (y ∷ xs) (suc i) n x h e b = below_in xs i n x (omega arith) e b.1
@@ -113,7 +119,8 @@ pub marked_var : (t : Ty) (v : ℕ) (named : List Bool) → t ≡ var v → v < 
 marked_var t v named e h = record {
   long = length-set named v true;
   marks = λ w. elim (eqb_tells v w) [
-    | inl q ↦ ap (λ i. get_or (set named v true) i false) (sym q.1) ∙ get_or-set_same named v true false h ∙ sym (ap (λ b. b || get_or named w false) (ap (λ x. has x w) e ∙ q.0))
+    | inl q ↦ ap (λ i. get_or (set named v true) i false) (sym q.1) ∙ get_or-set_same named v true false h
+        ∙ sym (ap (λ b. b || get_or named w false) (ap (λ x. has x w) e ∙ q.0))
     | inr q ↦ get_or-set_other named v w true false (λ z. q.1 (sym z)) ∙ sym (ap (λ b. b || get_or named w false) (ap (λ x. has x w) e ∙ q.0))
   ];
 }
@@ -124,37 +131,47 @@ marked_one h t x named named2 e m = record {
   marks = λ v. m.marks v ∙ sym (ap (λ b. b || get_or named v false) (ap (λ y. has y v) e ∙ written_one h x v));
 }
 
-pub marked_two : (h : Head) (t x y : Ty) (named named2 named3 : List Bool) → t ≡ con h (more x (more y none)) → Marked (has x) named named2 → Marked (has y) named2 named3 → Marked (has t) named named3
+pub marked_two : (h : Head) (t x y : Ty) (named named2 named3 : List Bool) → t ≡ con h (more x (more y none)) → Marked (has x) named named2
+    → Marked (has y) named2 named3 → Marked (has t) named named3
 marked_two h t x y named named2 named3 e m k = record {
   long = k.long ∙ m.long;
-  marks = λ v. k.marks v ∙ ap (λ b. has y v || b) (m.marks v) ∙ or_turn (has x v) (has y v) (get_or named v false) ∙ sym (ap (λ b. b || get_or named v false) (ap (λ z. has z v) e ∙ written_two h x y v));
+  marks = λ v. k.marks v ∙ ap (λ b. has y v || b) (m.marks v) ∙ or_turn (has x v) (has y v) (get_or named v false)
+      ∙ sym (ap (λ b. b || get_or named v false) (ap (λ z. has z v) e ∙ written_two h x y v));
 }
 
 pub marked_list : (h : Head) (t : Ty) (ts : Tys) (named named2 : List Bool) → t ≡ con h ts → Marked (has_all ts) named named2 → Marked (has t) named named2
 marked_list h t ts named named2 e m = record { long = m.long; marks = λ v. m.marks v ∙ sym (ap (λ b. b || get_or named v false) (ap (λ y. has y v) e)) }
 
-pub marked_next : (xs : List program.Ty) (i : ℕ) (x : program.Ty) (named named2 named3 : List Bool) → i < length xs → x ≡ get_or xs i x → Marked (has_all (tys_of (map ty_view (take i xs)))) named named2 → Marked (has (ty_view x)) named2 named3 → Marked (has_all (tys_of (map ty_view (take (i + 1) xs)))) named named3
+pub marked_next : (xs : List program.Ty) (i : ℕ) (x : program.Ty) (named named2 named3 : List Bool) → i < length xs → x ≡ get_or xs i x
+    → Marked (has_all (tys_of (map ty_view (take i xs)))) named named2 → Marked (has (ty_view x)) named2 named3
+    → Marked (has_all (tys_of (map ty_view (take (i + 1) xs)))) named named3
 marked_next xs i x named named2 named3 h e m k = record {
   long = k.long ∙ m.long;
   marks = λ v.
       let before : Bool = has_all (tys_of (map ty_view (take i xs))) v in
-      k.marks v ∙ ap (λ b. has (ty_view x) v || b) (m.marks v) ∙ or_turn before (has (ty_view x) v) (get_or named v false) ∙ sym (ap (λ b. b || get_or named v false) (written_next xs i x v h e));
+      k.marks v ∙ ap (λ b. has (ty_view x) v || b) (m.marks v) ∙ or_turn before (has (ty_view x) v) (get_or named v false)
+      ∙ sym (ap (λ b. b || get_or named v false) (written_next xs i x v h e));
 }
 
 -- more marks keep what they say
-pub named_marked : (named named2 : List Bool) (is_in : ℕ → Bool) (place : List ℕ) (xs : List Bound) → Named named place xs → Marked is_in named named2 → Named named2 place xs
+pub named_marked : (named named2 : List Bool) (is_in : ℕ → Bool) (place : List ℕ) (xs : List Bound) → Named named place xs → Marked is_in named named2
+    → Named named2 place xs
 named_marked named named2 is_in place xs n m = record {
   long = omega (arith, n.long, m.long);
   absent = λ v e. n.absent v (or_right (is_in v) (get_or named v false) (sym (m.marks v) ∙ e));
 }
 
 -- a variable may be bound to a type whose variables are marked
-pub named_more : (named named2 : List Bool) (place : List ℕ) (xs xs2 : List Bound) (x : Bound) (m : ℕ) → xs2 ≡ xs ++ x ∷ [] → Named named place xs → Marked (has (ty_view x.to)) named named2 → Named named2 (set place x.from m) xs2
+pub named_more : (named named2 : List Bool) (place : List ℕ) (xs xs2 : List Bound) (x : Bound) (m : ℕ) → xs2 ≡ xs ++ x ∷ [] → Named named place xs
+    → Marked (has (ty_view x.to)) named named2 → Named named2 (set place x.from m) xs2
 named_more named named2 place xs xs2 x m e n k = record {
   long = omega (arith, n.long, k.long, length-set place x.from m);
   absent = λ v z.
       let both : (has (ty_view x.to) v || get_or named v false) ≡ false = sym (k.marks v) ∙ z in
-      subst (Absent v) (sym (bounds_more xs xs2 x e)) (or_left (has (ty_view x.to) v) (get_or named v false) both, n.absent v (or_right (has (ty_view x.to) v) (get_or named v false) both));
+      subst (Absent v) (sym (bounds_more xs xs2 x e)) (
+        or_left (has (ty_view x.to) v) (get_or named v false) both,
+        n.absent v (or_right (has (ty_view x.to) v) (get_or named v false) both),
+      );
 }
 
 absent_under : (bs : List Binding) (xs : List Bound) (v : ℕ) → Absent v (onto bs xs) → Absent v bs
@@ -162,7 +179,8 @@ absent_under bs [] v a = a
 absent_under bs (x ∷ xs) v a = (absent_under (bound_view x ∷ bs) xs v a).1
 
 -- bindings that are taken back leave what the marks say
-pub named_front : (named : List Bool) (place place2 : List ℕ) (xs ys : List Bound) → Extends ys xs → length place2 ≡ length place → Named named place xs → Named named place2 ys
+pub named_front : (named : List Bool) (place place2 : List ℕ) (xs ys : List Bound) → Extends ys xs → length place2 ≡ length place → Named named place xs
+    → Named named place2 ys
 named_front named place place2 xs ys e l n = record {
   long = omega (arith, n.long, l);
   absent = λ v z. absent_under (bounds ys) e.more v (subst (Absent v) (ap bounds e.is ∙ onto_append [] ys e.more) (n.absent v z));

@@ -28,7 +28,8 @@ pub kept_below : (place : List ℕ) (xs : List Bound) (v : ℕ) (t : Ty) → Kep
 kept_below place xs v t k h = binds_below (bounds xs) v t (length place) h k.below
 
 -- what is bound to is read as no variable where the variable is
-pub kept_con : (place : List ℕ) (xs : List Bound) (v : ℕ) (t : Ty) → Kept place xs → Binds (bounds xs) v t → is_var (on (var v) (solution (bounds xs))) ≡ None → is_var (on t (solution (bounds xs))) ≡ None
+pub kept_con : (place : List ℕ) (xs : List Bound) (v : ℕ) (t : Ty) → Kept place xs → Binds (bounds xs) v t → is_var (on (var v) (solution (bounds xs))) ≡ None
+    → is_var (on t (solution (bounds xs))) ≡ None
 kept_con place xs v t k h e = ap is_var (sym (kept_read place xs v t k h)) ∙ e
 
 -- a variable that is not bound is read as a variable
@@ -38,7 +39,8 @@ unbound_con xs v u e = let q : Some v ≡ None = ap is_var (sym (unbound_read (b
 pub opened_same : (xs : List Bound) (n : ℕ) (h : Ty) → is_var h ≡ None → Below h n → Opened xs n h h
 opened_same xs n h e b = record { head = con_is h e; same = refl; below = b }
 
-pub opened_bound : (place : List ℕ) (xs : List Bound) (v : ℕ) (t r : Ty) → Kept place xs → Binds (bounds xs) v t → Opened xs (length place) t r → Opened xs (length place) (var v) r
+pub opened_bound : (place : List ℕ) (xs : List Bound) (v : ℕ) (t r : Ty) → Kept place xs → Binds (bounds xs) v t → Opened xs (length place) t r
+    → Opened xs (length place) (var v) r
 opened_bound place xs v t r k h o = record { head = o.head; same = o.same ∙ sym (kept_read place xs v t k h); below = o.below }
 
 mutual

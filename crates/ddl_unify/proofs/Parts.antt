@@ -1,9 +1,11 @@
 -- The parts of two types.
-use Rattle.std.proofs.Common.{◌≡◌, ℕ, ◌+◌, ◌≤◌, ◌<◌, List, [], ◌∷◌, ◌++◌, ◌==◌, refl, sym, ap, ◌∙◌, arith, zero, suc, map, length, drop, subst, true, false, ◌&&◌, Bool, inl, inr, append_assoc, length-append, ne_eqb, eq-eqb, eqb-true}
+use Rattle.std.proofs.Common.{◌≡◌, ℕ, ◌+◌, ◌≤◌, ◌<◌, List, [], ◌∷◌, ◌++◌, ◌==◌, refl, sym, ap, ◌∙◌, arith, zero, suc, map, length, drop, subst, true, false}
+use Rattle.std.proofs.Common.{◌&&◌, Bool, inl, inr, append_assoc, length-append, ne_eqb, eq-eqb, eqb-true}
 use Rattle.std.proofs.lemmas.Bool.Decides.{eqb_tells}
 use Rattle.std.proofs.lemmas.List.{map-append, drop-append-le}
 use Rattle.ddl_types.specs.declared.ty.Ty as program
-use Rattle.ddl_types.specs.Types.{Head, Head.int, Head.uint, Head.sint, Head.bool, Head.unit, Head.stream, Head.maybe_of, Head.array_of, Head.map_of, Head.bits, Head.place, Ty, Ty.var, Ty.con, Tys, Tys.none, Tys.more, Sub, on_all, tys_of, BelowAll}
+use Rattle.ddl_types.specs.Types.{Head, Head.int, Head.uint, Head.sint, Head.bool, Head.unit, Head.stream, Head.maybe_of, Head.array_of, Head.map_of, Head.bits}
+use Rattle.ddl_types.specs.Types.{Head.place, Ty, Ty.var, Ty.con, Tys, Tys.none, Tys.more, Sub, on_all, tys_of, BelowAll}
 use Rattle.ddl_types.specs.TyView.{ty_view}
 use Rattle.ddl_unify.specs.declared.store.Pair.{Pair}
 use Rattle.ddl_unify.specs.View.{equations, pair_view}
@@ -41,11 +43,13 @@ and_right true b e = e
 and_right false b e = cc
 
 -- lists of alike types are of one length
-pub long_both : (h g : Head) (xs ys : List program.Ty) → alike (con h (tys_of (map ty_view xs))) (con g (tys_of (map ty_view ys))) ≡ true → length xs ≡ length ys
+pub long_both : (h g : Head) (xs ys : List program.Ty) → alike (con h (tys_of (map ty_view xs))) (con g (tys_of (map ty_view ys))) ≡ true
+    → length xs ≡ length ys
 long_both h g xs ys e = long_same xs ys (and_right (head_eq h g) (long_as (tys_of (map ty_view xs)) (tys_of (map ty_view ys))) e)
 
 -- the last parts make the first equation
-pub pairs_last : (xs ys : List Ty) (x y : Ty) → length xs ≡ length ys → pairs (tys_of (xs ++ x ∷ [])) (tys_of (ys ++ y ∷ [])) ≡ equal x y ∷ pairs (tys_of xs) (tys_of ys)
+pub pairs_last : (xs ys : List Ty) (x y : Ty) → length xs ≡ length ys
+    → pairs (tys_of (xs ++ x ∷ [])) (tys_of (ys ++ y ∷ [])) ≡ equal x y ∷ pairs (tys_of xs) (tys_of ys)
 pairs_last [] [] x y e = refl
 pairs_last [] (b ∷ ys) x y e = absurd (omega arith)
 pairs_last (a ∷ xs) [] x y e = absurd (omega arith)
@@ -168,13 +172,17 @@ pub shorter : (ls ls2 rs rs2 : List program.Ty) (l r : program.Ty) → ls ≡ ls
 shorter ls ls2 rs rs2 l r p q h = omega (arith, h, ap length p, ap length q, length-append ls2 (l ∷ []), length-append rs2 (r ∷ []))
 
 -- the last parts of two lists, moved to a stack
-pub pairs_moved : (st st2 : List Pair) (ls ls2 rs rs2 : List program.Ty) (l r : program.Ty) → st2 ≡ st ++ record { left = l; right = r } ∷ [] → ls ≡ ls2 ++ l ∷ [] → rs ≡ rs2 ++ r ∷ [] → length ls ≡ length rs → equations st2 ++ pairs (tys_of (map ty_view ls2)) (tys_of (map ty_view rs2)) ≡ equations st ++ pairs (tys_of (map ty_view ls)) (tys_of (map ty_view rs))
+pub pairs_moved : (st st2 : List Pair) (ls ls2 rs rs2 : List program.Ty) (l r : program.Ty) → st2 ≡ st ++ record { left = l; right = r } ∷ []
+    → ls ≡ ls2 ++ l ∷ [] → rs ≡ rs2 ++ r ∷ [] → length ls ≡ length rs
+    → equations st2 ++ pairs (tys_of (map ty_view ls2)) (tys_of (map ty_view rs2)) ≡ equations st ++ pairs (tys_of (map ty_view ls)) (tys_of (map ty_view rs))
 pairs_moved st st2 ls ls2 rs rs2 l r e p q h =
     let n : length (map ty_view ls2) ≡ length (map ty_view rs2) = map_long ls2 rs2 (shorter ls ls2 rs rs2 l r p q h) in
     let a : map ty_view ls ≡ map ty_view ls2 ++ ty_view l ∷ [] = ap (map ty_view) p ∙ map-append ty_view ls2 (l ∷ []) in
     let b : map ty_view rs ≡ map ty_view rs2 ++ ty_view r ∷ [] = ap (map ty_view) q ∙ map-append ty_view rs2 (r ∷ []) in
-    let t : pairs (tys_of (map ty_view ls)) (tys_of (map ty_view rs)) ≡ equal (ty_view l) (ty_view r) ∷ pairs (tys_of (map ty_view ls2)) (tys_of (map ty_view rs2)) =
-    ap (λ (x : List Ty). pairs (tys_of x) (tys_of (map ty_view rs))) a ∙ ap (λ (x : List Ty). pairs (tys_of (map ty_view ls2 ++ ty_view l ∷ [])) (tys_of x)) b ∙ pairs_last (map ty_view ls2) (map ty_view rs2) (ty_view l) (ty_view r) n in
+    let t : pairs (tys_of (map ty_view ls)) (tys_of (map ty_view rs)) ≡ equal (ty_view l) (ty_view r)
+    ∷ pairs (tys_of (map ty_view ls2)) (tys_of (map ty_view rs2)) =
+    ap (λ (x : List Ty). pairs (tys_of x) (tys_of (map ty_view rs))) a ∙ ap (λ (x : List Ty). pairs (tys_of (map ty_view ls2 ++ ty_view l ∷ [])) (tys_of x)) b
+    ∙ pairs_last (map ty_view ls2) (map ty_view rs2) (ty_view l) (ty_view r) n in
     ap (λ es. es ++ pairs (tys_of (map ty_view ls2)) (tys_of (map ty_view rs2))) (equations_last st st2 (record { left = l; right = r }) e)
     ∙ append_assoc (equations st) (equal (ty_view l) (ty_view r) ∷ []) (pairs (tys_of (map ty_view ls2)) (tys_of (map ty_view rs2)))
     ∙ ap (λ es. equations st ++ es) (sym t)

@@ -54,7 +54,8 @@ pub binds_read : (bs : List Binding) (v : ℕ) (t : Ty) → Sound bs → Binds b
 binds_read bs v t w h = agrees_binds bs (solution bs) v t (solution_agrees bs w) h
 
 -- bindings that say the same as the equations are a most general solution
-pub most_general : (es : List Equation) (bs : List Binding) → Sound bs → ((f : Sub) → Solves f es → Agrees f bs) → ((f : Sub) → Agrees f bs → Solves f es) → MostGeneral es (solution bs)
+pub most_general : (es : List Equation) (bs : List Binding) → Sound bs → ((f : Sub) → Solves f es → Agrees f bs) → ((f : Sub) → Agrees f bs → Solves f es)
+    → MostGeneral es (solution bs)
 most_general es bs w there back = record {
   solves = back (solution bs) (solution_agrees bs w);
   general = λ g s. (g, λ n. sym (solution_then bs g (there g s) n));
@@ -65,11 +66,13 @@ mutual
   weighed_sum (var n) w f v k = refl
   weighed_sum (con h ts) w f v k = omega (arith, weighed_all_sum ts w f v k)
 
-  weighed_all_sum : (ts : Tys) (w : ℕ → ℕ) (f : Sub) (v k : ℕ) → weighed_all ts (λ n. w n + count (f n) v * k) ≡ weighed_all ts w + count_all (on_all ts f) v * k
+  weighed_all_sum : (ts : Tys) (w : ℕ → ℕ) (f : Sub) (v k : ℕ)
+      → weighed_all ts (λ n. w n + count (f n) v * k) ≡ weighed_all ts w + count_all (on_all ts f) v * k
   weighed_all_sum none w f v k = omega arith
   weighed_all_sum (more t ts) w f v k = omega (arith, weighed_sum t w f v k, weighed_all_sum ts w f v k)
 
-weighed_more : (t : Ty) (b : Binding) (bs : List Binding) → weighed t (cost (b ∷ bs)) ≡ weighed t (cost bs) + count (on t (solution bs)) b.from * (1 + weighed b.to (cost bs))
+weighed_more : (t : Ty) (b : Binding) (bs : List Binding)
+    → weighed t (cost (b ∷ bs)) ≡ weighed t (cost bs) + count (on t (solution bs)) b.from * (1 + weighed b.to (cost bs))
 weighed_more t b bs = weighed_sum t (cost bs) (solution bs) b.from (1 + weighed b.to (cost bs))
 
 -- what a variable is bound to weighs less than the variable
@@ -92,14 +95,16 @@ binds_less (b ∷ bs) v t w h =
 pub read_place : (bs : List Binding) (h : Head) (ts : List Ty) → on (con h (tys_of ts)) (solution bs) ≡ con h (tys_of (map (λ t. on t (solution bs)) ts))
 read_place bs h ts = on_place h ts (solution bs)
 
-pub kept_read : (place : List ℕ) (xs : List Bound) (v : ℕ) (t : Ty) → Kept place xs → Binds (bounds xs) v t → solution (bounds xs) v ≡ on t (solution (bounds xs))
+pub kept_read : (place : List ℕ) (xs : List Bound) (v : ℕ) (t : Ty) → Kept place xs → Binds (bounds xs) v t
+    → solution (bounds xs) v ≡ on t (solution (bounds xs))
 kept_read place xs v t k h = binds_read (bounds xs) v t k.sound h
 
 pub kept_less : (place : List ℕ) (xs : List Bound) (v : ℕ) (t : Ty) → Kept place xs → Binds (bounds xs) v t → weighed t (cost (bounds xs)) < cost (bounds xs) v
 kept_less place xs v t k h = binds_less (bounds xs) v t k.sound h
 
 -- a list's type weighs no more than the list
-pub weighed_at : (w : ℕ → ℕ) (xs : List program.Ty) (k : ℕ) (x : program.Ty) → k < length xs → x ≡ get_or xs k x → weighed (ty_view x) w ≤ weighed_all (tys_of (map ty_view xs)) w
+pub weighed_at : (w : ℕ → ℕ) (xs : List program.Ty) (k : ℕ) (x : program.Ty) → k < length xs → x ≡ get_or xs k x
+    → weighed (ty_view x) w ≤ weighed_all (tys_of (map ty_view xs)) w
 weighed_at w [] k x h e = absurd (omega arith)
 weighed_at w (y ∷ xs) zero x h e = omega (arith, ap (λ z. weighed (ty_view z) w) e)
 weighed_at w (y ∷ xs) (suc k) x h e = omega (arith, weighed_at w xs k x (omega arith) e)
@@ -107,16 +112,19 @@ weighed_at w (y ∷ xs) (suc k) x h e = omega (arith, weighed_at w xs k x (omega
 pub followed_first : (xs : List Bound) (t : Ty) → Followed xs t t
 followed_first xs t = record { same = refl; lighter = omega arith }
 
-pub followed_more : (place : List ℕ) (xs : List Bound) (t u : Ty) (v : ℕ) (w : Ty) → Kept place xs → Followed xs t u → u ≡ var v → Binds (bounds xs) v w → Followed xs t w
+pub followed_more : (place : List ℕ) (xs : List Bound) (t u : Ty) (v : ℕ) (w : Ty) → Kept place xs → Followed xs t u → u ≡ var v → Binds (bounds xs) v w
+    → Followed xs t w
 followed_more place xs t u v w k f e h = record {
   same = sym (kept_read place xs v w k h) ∙ ap (λ x. on x (solution (bounds xs))) (sym e) ∙ f.same;
   lighter = omega (arith, kept_less place xs v w k h, f.lighter, ap (λ x. weighed x (cost (bounds xs))) e);
 }
 
-pub followed_read : (place : List ℕ) (xs : List Bound) (v : ℕ) (t u : Ty) → Kept place xs → Binds (bounds xs) v t → Followed xs t u → on u (solution (bounds xs)) ≡ solution (bounds xs) v
+pub followed_read : (place : List ℕ) (xs : List Bound) (v : ℕ) (t u : Ty) → Kept place xs → Binds (bounds xs) v t → Followed xs t u
+    → on u (solution (bounds xs)) ≡ solution (bounds xs) v
 followed_read place xs v t u k h f = f.same ∙ sym (kept_read place xs v t k h)
 
-pub followed_less : (place : List ℕ) (xs : List Bound) (v : ℕ) (t u : Ty) → Kept place xs → Binds (bounds xs) v t → Followed xs t u → weighed u (cost (bounds xs)) < cost (bounds xs) v
+pub followed_less : (place : List ℕ) (xs : List Bound) (v : ℕ) (t u : Ty) → Kept place xs → Binds (bounds xs) v t → Followed xs t u
+    → weighed u (cost (bounds xs)) < cost (bounds xs) v
 followed_less place xs v t u k h f = omega (arith, kept_less place xs v t k h, f.lighter)
 
 -- a chain ends in a type that the solution leaves a variable, or that is none

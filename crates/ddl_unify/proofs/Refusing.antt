@@ -1,5 +1,6 @@
 -- When an equation is endless, and when it clashes.
-use Rattle.std.proofs.Common.{◌≡◌, ℕ, List, [], ◌∷◌, ◌++◌, refl, sym, ap, ◌∙◌, inl, inr, ◌≢◌, Some, None, Option, Bool, true, false, subst, if◌then◌else◌, is_some}
+use Rattle.std.proofs.Common.{◌≡◌, ℕ, List, [], ◌∷◌, ◌++◌, refl, sym, ap, ◌∙◌, inl, inr, ◌≢◌, Some, None, Option, Bool, true, false, subst, if◌then◌else◌}
+use Rattle.std.proofs.Common.{is_some}
 use Rattle.ddl_types.specs.Types.{Ty, Sub, on, Ty.var, Ty.con}
 use Rattle.ddl_unify.specs.declared.store.Bound.{Bound}
 use Rattle.ddl_unify.specs.View.{bounds}
@@ -47,7 +48,11 @@ holder_some : (l r : Ty) (v : ℕ) → holder l r ≡ Some v → (l ≡ var v) �
 holder_some (var w) (con h ts) v e = by_has (has_all ts w) refl e
   where
     by_has : (b : Bool) → has_all ts w ≡ b → (if b then Some w else None) ≡ Some v → (var w ≡ var v) × (count_all ts v ≢ 0)
-    by_has true q e = let p : w ≡ v = cc in (ap var p, λ z. (let k = count_has_all ts v z in let P : ℕ → Type 0 = λ n. has_all ts n ≡ true in let j = subst P p q in cc))
+    by_has true q e = let p : w ≡ v = cc in (
+      ap var p,
+      λ z.
+          (let k = count_has_all ts v z in let P : ℕ → Type 0 = λ n. has_all ts n ≡ true in let j = subst P p q in cc),
+    )
     by_has false q e = absurd (let j : None ≡ Some v = e in cc)
 holder_some (var w) (var u) v e = absurd (let j : None ≡ Some v = e in cc)
 holder_some (con h ts) r v e = absurd (let j : None ≡ Some v = e in cc)
@@ -73,12 +78,14 @@ pub none_same : (o : Option ℕ) (p : Option ℕ) → o ≡ p → ((v : ℕ) →
 none_same o p e n = sym e ∙ none_of o n
 
 -- a clash is refused where there is no solution and the equation is not endless
-pub clash_refused : (d : EquateError) (es : List Equation) (xs ys : List Bound) (l r : Ty) → ys ≡ xs → IsClash d (solution (bounds ys)) l r → Unsolvable (es ++ equal l r ∷ []) → (Endless (on l (solution (bounds xs))) (on r (solution (bounds xs))) → ⊥) → Refused d es (solution (bounds xs)) l r
+pub clash_refused : (d : EquateError) (es : List Equation) (xs ys : List Bound) (l r : Ty) → ys ≡ xs → IsClash d (solution (bounds ys)) l r
+    → Unsolvable (es ++ equal l r ∷ []) → (Endless (on l (solution (bounds xs))) (on r (solution (bounds xs))) → ⊥) → Refused d es (solution (bounds xs)) l r
 clash_refused (e.Clash a b) es xs ys l r q h u n =
     let P : List Bound → Type 0 = λ z. AreRead (ty_view a) (ty_view b) (solution (bounds z)) l r in (subst P q h, u, n)
 clash_refused (e.Endless v x) es xs ys l r q h u n = absurd h
 clash_refused e.NoMemory es xs ys l r q h u n = tt
 
-pub not_endless_there : (xs ys : List Bound) (l r : Ty) → ys ≡ xs → (Endless (on l (solution (bounds ys))) (on r (solution (bounds ys))) → ⊥) → Endless (on l (solution (bounds xs))) (on r (solution (bounds xs))) → ⊥
+pub not_endless_there : (xs ys : List Bound) (l r : Ty) → ys ≡ xs → (Endless (on l (solution (bounds ys))) (on r (solution (bounds ys))) → ⊥)
+    → Endless (on l (solution (bounds xs))) (on r (solution (bounds xs))) → ⊥
 not_endless_there xs ys l r q n =
     let P : List Bound → Type 0 = λ z. Endless (on l (solution (bounds z))) (on r (solution (bounds z))) → ⊥ in subst P q n

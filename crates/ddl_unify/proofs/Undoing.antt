@@ -36,7 +36,8 @@ undo_kept place xs ys x e k =
       ];
       bound = λ v j q. elim (eqb_tells v x.from) [
         | inl p ↦ absurd (let g : get_or (set place x.from 0) x.from 0 ≡ suc j = ap (λ i. get_or (set place x.from 0) i 0) (sym p.1) ∙ q in omega arith)
-        | inr p ↦ elim (from_front ys x j v (subst (IsFrom j v) e (k.bound v j (sym (get_or-set_other place x.from v 0 0 p.1) ∙ q)))) [ inl f ↦ f | inr f ↦ absurd (p.1 (sym f)) ]
+        | inr p ↦ elim (from_front ys x j v (subst (IsFrom j v) e (k.bound v j (sym (get_or-set_other place x.from v 0 0 p.1) ∙ q))))
+            [ inl f ↦ f | inr f ↦ absurd (p.1 (sym f)) ]
       ];
       below = let P : ℕ → Type 0 = λ i. ToBelow (bounds ys) i in
           let Q : List Binding → Type 0 = λ bs. ToBelow bs (length place) in
@@ -50,5 +51,6 @@ same_front [] (y ∷ b) m n e h = absurd (omega arith)
 same_front (x ∷ a) [] m n e h = absurd (omega arith)
 same_front (x ∷ a) (y ∷ b) m n e h = let r = same_front a b m n (cc) (omega arith) in let q : x ≡ y = cc in cc
 
-pub unchanged : (p p1 p2 : List ℕ) (a b c : List Bound) → Fine p p1 a b → Kept p2 c → length p2 ≡ length p1 → length c ≡ length a → Extends c b → Unchanged p p2 a c
+pub unchanged : (p p1 p2 : List ℕ) (a b c : List Bound) → Fine p p1 a b → Kept p2 c → length p2 ≡ length p1 → length c ≡ length a → Extends c b
+    → Unchanged p p2 a c
 unchanged p p1 p2 a b c f k l n x = record { kept = k; long = l ∙ f.long; same = same_front c a x.more f.extends.more (sym x.is ∙ f.extends.is) n }

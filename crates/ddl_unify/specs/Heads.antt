@@ -1,6 +1,7 @@
 -- Two types that are no variables: whether their heads are one, and the equations between their parts.
 use Rattle.std.specs.Prelude.{◌==◌, ◌&&◌, Bool, true, false, List, [], ◌∷◌, ◌++◌}
-use Rattle.ddl_types.specs.Types.{Head, Head.int, Head.uint, Head.sint, Head.bool, Head.unit, Head.stream, Head.maybe_of, Head.array_of, Head.map_of, Head.bits, Head.place, Ty, Ty.var, Ty.con, Tys, Tys.none, Tys.more}
+use Rattle.ddl_types.specs.Types.{Head, Head.int, Head.uint, Head.sint, Head.bool, Head.unit, Head.stream, Head.maybe_of, Head.array_of, Head.map_of, Head.bits}
+use Rattle.ddl_types.specs.Types.{Head.place, Ty, Ty.var, Ty.con, Tys, Tys.none, Tys.more}
 use Rattle.ddl_unify.specs.Equations.{Equation, equal}
 
 abbrev pub head_eq : Head → Head → Bool

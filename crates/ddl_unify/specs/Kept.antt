@@ -35,7 +35,8 @@ SplitIs false l r es es2 = Apart l r
 -- those above the first n tell what those above the first n told, and l = r
 pub record Step (place : List ℕ) (xs : List Bound) (es : List Equation) (l r : Ty) (place2 : List ℕ) (xs2 : List Bound) (es2 : List Equation) : Type 0 where
   pub there : (f : Sub) → Agrees f (bounds xs) → Solves f es → on l f ≡ on r f → Agrees f (bounds xs2) × Solves f es2
-  pub back : (n : ℕ) → n ≤ length es → (f : Sub) → Agrees f (bounds xs2) → Solves f (drop n es2) → Agrees f (bounds xs) × Solves f (drop n es) × (on l f ≡ on r f)
+  pub back : (n : ℕ) → n ≤ length es → (f : Sub) → Agrees f (bounds xs2) → Solves f (drop n es2) → Agrees f (bounds xs) × Solves f (drop n es)
+      × (on l f ≡ on r f)
   pub fewer : steps (zeros place2) (weight (bounds xs2) es2) < steps (zeros place) (weight (bounds xs) (equal l r ∷ es))
   pub below : EachBelow es2 (length place)
 

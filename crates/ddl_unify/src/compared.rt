@@ -50,7 +50,8 @@ fn is_settled(pending: &[Pending], n: usize) -> bool
 
 /// Takes the last pair, if it was being made equal by none of the first n + 1 equations.
 fn pop_settled(pending: &mut Vec<Pending>, n: usize) -> Option<Pending>
-    ensures { MatchOption result (pending.new.items ≡ pending.old.items) (λ p. (pending.old.items ≡ pending.new.items ++ p ∷ []) × (n < p.above)) }
+    ensures { MatchOption result (pending.new.items ≡ pending.old.items) (λ p.
+        (pending.old.items ≡ pending.new.items ++ p ∷ []) × (n < p.above)) }
 {
     if is_settled(pending, n) {
         pending.pop()
@@ -73,7 +74,8 @@ impl Compared {
 
     /// Whether two variables are one, or were made equal.
     pub fn knows(&self, left: u32, right: u32) -> bool
-        ensures { OnTrue result ((xs : List Bound) (es : List Equation) → Remembers self.now xs es → (f : Sub) → Agrees f (bounds xs) → f left ≡ f right) }
+        ensures { OnTrue result ((xs : List Bound) (es : List Equation) → Remembers self.now xs es → (f : Sub)
+            → Agrees f (bounds xs) → f left ≡ f right) }
     {
         if left == right {
             return true;
@@ -83,7 +85,9 @@ impl Compared {
 
     /// Two variables are equal once the equations above the given number of them are solved.
     pub fn expect(&mut self, left: u32, right: u32, above: usize) -> Result<(), NoMemory>
-        ensures { OnOk result ((xs : List Bound) (es : List Equation) → Remembers self.old xs es → ((f : Sub) → Agrees f (bounds xs) → Solves f (drop above es) → f left ≡ f right) → Remembers self.new xs es) }
+        ensures { OnOk result ((xs : List Bound) (es : List Equation) → Remembers self.old xs es
+            → ((f : Sub) → Agrees f (bounds xs) → Solves f (drop above es) → f left ≡ f right)
+            → Remembers self.new xs es) }
     {
         self.pending.push(Pending { left, right, above })?;
         Ok(())
@@ -91,7 +95,8 @@ impl Compared {
 
     /// Keeps as made equal those pairs of which no equation is left, of n + 1.
     pub fn settle(&mut self, n: usize) -> Result<(), NoMemory>
-        ensures { OnOk result ((xs : List Bound) (es : List Equation) → length es ≤ n + 1 → Remembers self.old xs es → Remembers self.new xs es) }
+        ensures { OnOk result ((xs : List Bound) (es : List Equation) → length es ≤ n + 1 → Remembers self.old xs es
+            → Remembers self.new xs es) }
     {
         while let Some(last) = pop_settled(&mut self.pending, n) {
             know(&mut self.known, last.left, last.right)?;

@@ -1,7 +1,8 @@
 //! Types that are no variables: their heads and their parts.
 
 ghost use Rattle.std.specs.Prelude.{◌≡◌, ◌++◌, ◌∷◌, [], IfOk, true, map, length};
-ghost use Rattle.ddl_types.specs.Types.{Ty.con, Tys.none, Tys.more, Head.maybe_of, Head.array_of, Head.map_of, Head.place, tys_of};
+ghost use Rattle.ddl_types.specs.Types.{Ty.con, Tys.none, Tys.more, Head.maybe_of, Head.array_of, Head.map_of};
+ghost use Rattle.ddl_types.specs.Types.{Head.place, tys_of};
 ghost use Rattle.ddl_types.specs.TyView.{ty_view};
 ghost use Rattle.ddl_unify.specs.Heads.{alike, pairs, parts};
 ghost use Rattle.ddl_unify.specs.Equations.{equal};
@@ -48,7 +49,8 @@ pub fn is_alike(left: &Ty, right: &Ty) -> bool
 #[tactic(auto, using(ddl_types::proofs::TyLayers::layers, crate::proofs::Parts::splits))]
 pub fn push_parts(stack: &mut Vec<Pair>, left: Ty, right: Ty) -> Result<(), NoMemory>
     requires { alike (ty_view left) (ty_view right) ≡ true }
-    ensures { IfOk result (λ _. equations stack.new.items ≡ equations stack.old.items ++ pairs (parts (ty_view left)) (parts (ty_view right))) }
+    ensures { IfOk result (λ _. equations stack.new.items ≡ equations stack.old.items
+        ++ pairs (parts (ty_view left)) (parts (ty_view right))) }
 {
     match left {
         Ty::Maybe(inner) => {
@@ -74,7 +76,8 @@ pub fn push_parts(stack: &mut Vec<Pair>, left: Ty, right: Ty) -> Result<(), NoMe
 #[tactic(auto, using(ddl_types::proofs::TyLayers::layers, crate::proofs::Parts::splits))]
 fn push_maybe(stack: &mut Vec<Pair>, left: Box<Ty>, right: Ty) -> Result<(), NoMemory>
     requires { alike (con maybe_of (more (ty_view left.value) none)) (ty_view right) ≡ true }
-    ensures { IfOk result (λ _. equations stack.new.items ≡ equations stack.old.items ++ pairs (more (ty_view left.value) none) (parts (ty_view right))) }
+    ensures { IfOk result (λ _. equations stack.new.items ≡ equations stack.old.items
+        ++ pairs (more (ty_view left.value) none) (parts (ty_view right))) }
 {
     match right {
         Ty::Maybe(inner) => {
@@ -88,7 +91,8 @@ fn push_maybe(stack: &mut Vec<Pair>, left: Box<Ty>, right: Ty) -> Result<(), NoM
 #[tactic(auto, using(ddl_types::proofs::TyLayers::layers, crate::proofs::Parts::splits))]
 fn push_array(stack: &mut Vec<Pair>, left: Box<Ty>, right: Ty) -> Result<(), NoMemory>
     requires { alike (con array_of (more (ty_view left.value) none)) (ty_view right) ≡ true }
-    ensures { IfOk result (λ _. equations stack.new.items ≡ equations stack.old.items ++ pairs (more (ty_view left.value) none) (parts (ty_view right))) }
+    ensures { IfOk result (λ _. equations stack.new.items ≡ equations stack.old.items
+        ++ pairs (more (ty_view left.value) none) (parts (ty_view right))) }
 {
     match right {
         Ty::Array(element) => {
@@ -102,7 +106,8 @@ fn push_array(stack: &mut Vec<Pair>, left: Box<Ty>, right: Ty) -> Result<(), NoM
 #[tactic(auto, using(ddl_types::proofs::TyLayers::layers, crate::proofs::Parts::splits))]
 fn push_map(stack: &mut Vec<Pair>, key: Box<Ty>, value: Box<Ty>, right: Ty) -> Result<(), NoMemory>
     requires { alike (con map_of (more (ty_view key.value) (more (ty_view value.value) none))) (ty_view right) ≡ true }
-    ensures { IfOk result (λ _. equations stack.new.items ≡ equations stack.old.items ++ pairs (more (ty_view key.value) (more (ty_view value.value) none)) (parts (ty_view right))) }
+    ensures { IfOk result (λ _. equations stack.new.items ≡ equations stack.old.items
+        ++ pairs (more (ty_view key.value) (more (ty_view value.value) none)) (parts (ty_view right))) }
 {
     match right {
         Ty::Map(right_key, right_value) => {
@@ -116,7 +121,8 @@ fn push_map(stack: &mut Vec<Pair>, key: Box<Ty>, value: Box<Ty>, right: Ty) -> R
 
 #[tactic(auto, using(ddl_types::proofs::TyLayers::layers, crate::proofs::Parts::splits))]
 fn push_boxes(stack: &mut Vec<Pair>, left: Box<Ty>, right: Box<Ty>) -> Result<(), NoMemory>
-    ensures { IfOk result (λ _. equations stack.new.items ≡ equations stack.old.items ++ equal (ty_view left.value) (ty_view right.value) ∷ []) }
+    ensures { IfOk result (λ _. equations stack.new.items ≡ equations stack.old.items
+        ++ equal (ty_view left.value) (ty_view right.value) ∷ []) }
 {
     stack.push(Pair {
         left: Box::into_inner(left),
@@ -128,7 +134,8 @@ fn push_boxes(stack: &mut Vec<Pair>, left: Box<Ty>, right: Box<Ty>) -> Result<()
 #[tactic(auto, using(ddl_types::proofs::TyLayers::layers, crate::proofs::Parts::splits))]
 fn push_place(stack: &mut Vec<Pair>, number: u32, ls: Vec<Ty>, right: Ty) -> Result<(), NoMemory>
     requires { alike (con (place number) (tys_of (map ty_view ls.items))) (ty_view right) ≡ true }
-    ensures { IfOk result (λ _. equations stack.new.items ≡ equations stack.old.items ++ pairs (tys_of (map ty_view ls.items)) (parts (ty_view right))) }
+    ensures { IfOk result (λ _. equations stack.new.items ≡ equations stack.old.items
+        ++ pairs (tys_of (map ty_view ls.items)) (parts (ty_view right))) }
 {
     match right {
         Ty::Place(_, rs) => {
@@ -142,7 +149,8 @@ fn push_place(stack: &mut Vec<Pair>, number: u32, ls: Vec<Ty>, right: Ty) -> Res
 #[tactic(auto, using(crate::proofs::Parts::splits))]
 fn push_all(stack: &mut Vec<Pair>, mut ls: Vec<Ty>, mut rs: Vec<Ty>) -> Result<(), NoMemory>
     requires { length ls.items ≡ length rs.items }
-    ensures { IfOk result (λ _. equations stack.new.items ≡ equations stack.old.items ++ pairs (tys_of (map ty_view ls.items)) (tys_of (map ty_view rs.items))) }
+    ensures { IfOk result (λ _. equations stack.new.items ≡ equations stack.old.items
+        ++ pairs (tys_of (map ty_view ls.items)) (tys_of (map ty_view rs.items))) }
 {
     while let Some(left) = ls.pop() {
         if let Some(right) = rs.pop() {

@@ -54,7 +54,8 @@ pub fn followed<'a>(place: &[u32], trail: &'a [Bound], t: &'a Ty) -> &'a Ty
 #[tactic(auto, using(crate::proofs::ReadingLemmas::ends))]
 pub fn head<'a>(place: &[u32], trail: &'a [Bound], t: &'a Ty) -> &'a Ty
     requires { Kept place.now trail.now }
-    ensures same { on (ty_view result.now) (solution (bounds trail.now)) ≡ on (ty_view t.now) (solution (bounds trail.now)) }
+    ensures same { on (ty_view result.now) (solution (bounds trail.now))
+        ≡ on (ty_view t.now) (solution (bounds trail.now)) }
     ensures free { IsFree (ty_view result.now) (solution (bounds trail.now)) }
 {
     followed(place, trail, t)
@@ -136,7 +137,8 @@ fn read_variable(alloc: Global, place: &[u32], trail: &[Bound], v: u32) -> Resul
 #[tactic(auto, using(ddl_types::proofs::TyLayers::layers, crate::proofs::ReadingLemmas::reads))]
 fn read_all(alloc: Global, place: &[u32], trail: &[Bound], ts: &[Ty]) -> Result<Vec<Ty>, NoMemory>
     requires { Kept place.now trail.now }
-    ensures { IfOk result (λ r. map ty_view r.items ≡ map (λ t. on t (solution (bounds trail.now))) (map ty_view ts.now)) }
+    ensures { IfOk result (λ r. map ty_view r.items
+        ≡ map (λ t. on t (solution (bounds trail.now))) (map ty_view ts.now)) }
 {
     let mut made = Vec::new(alloc);
     for t in ts {

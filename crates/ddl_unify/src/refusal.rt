@@ -50,7 +50,8 @@ fn held(
 ) -> Result<Option<u32>, NoMemory>
     requires kept { Kept place.now trail.now }
     requires named { Named named.now place.now trail.now }
-    ensures { IfOk result (λ o. o ≡ holder (on (ty_view left.now) (solution (bounds trail.now))) (on (ty_view right.now) (solution (bounds trail.now)))) }
+    ensures { IfOk result (λ o. o ≡ holder (on (ty_view left.now) (solution (bounds trail.now)))
+        (on (ty_view right.now) (solution (bounds trail.now)))) }
 {
     match unbound(place, trail, left) {
         None => Ok(None),
@@ -97,7 +98,9 @@ pub fn refuse_endless(
 ) -> Result<(), EquateError>
     requires kept { Kept place.now trail.now }
     requires named { Named named.now place.now trail.now }
-    ensures { MatchResult result (λ _. Endless (on (ty_view left.now) (solution (bounds trail.now))) (on (ty_view right.now) (solution (bounds trail.now))) → ⊥) (λ e. (es : List Equation) → Refused e es (solution (bounds trail.now)) (ty_view left.now) (ty_view right.now)) }
+    ensures { MatchResult result (λ _. Endless (on (ty_view left.now) (solution (bounds trail.now)))
+        (on (ty_view right.now) (solution (bounds trail.now))) → ⊥) (λ e. (es : List Equation)
+        → Refused e es (solution (bounds trail.now)) (ty_view left.now) (ty_view right.now)) }
 {
     if let Some(v) = held(alloc, place, trail, named, left, right)? {
         let read = read(alloc, place, trail, right)?;

@@ -1,6 +1,7 @@
 //! A solver: the equations that it accepted, and a most general solution of them.
 
-ghost use Rattle.std.specs.Prelude.{◌≡◌, ◌<◌, ◌+◌, ◌-◌, ◌^◌, ◌++◌, ◌∷◌, [], List, length, ◌≤◌, IfOk, IfErr, OnErr, MatchResult, nat_le};
+ghost use Rattle.std.specs.Prelude.{◌≡◌, ◌<◌, ◌+◌, ◌-◌, ◌^◌, ◌++◌, ◌∷◌, [], List, length, ◌≤◌, IfOk, IfErr, OnErr};
+ghost use Rattle.std.specs.Prelude.{MatchResult, nat_le};
 ghost use Rattle.ddl_types.specs.Types.{Below, on};
 ghost use Rattle.ddl_types.specs.TyView.{ty_view};
 ghost use Rattle.ddl_unify.specs.Equations.{equal, MostGeneral};
@@ -99,10 +100,12 @@ impl Solver {
     pub fn equate(&mut self, left: &Ty, right: &Ty) -> Result<(), EquateError>
         requires left_below { Below (ty_view left.now) (variables self.old) }
         requires right_below { Below (ty_view right.now) (variables self.old) }
-        ensures accepted { IfOk result (λ _. accepted self.new ≡ accepted self.old ++ equal (ty_view left.now) (ty_view right.now) ∷ []) }
+        ensures accepted { IfOk result (λ _. accepted self.new ≡ accepted self.old
+            ++ equal (ty_view left.now) (ty_view right.now) ∷ []) }
         ensures most { MostGeneral (accepted self.new) (solution self.new) }
         ensures variables { variables self.new ≡ variables self.old }
-        ensures refused { MatchResult result (λ _. Unit {0}) (λ e. Refused e (accepted self.old) (solution self.old) (ty_view left.now) (ty_view right.now)) }
+        ensures refused { MatchResult result (λ _. Unit {0}) (λ e.
+            Refused e (accepted self.old) (solution self.old) (ty_view left.now) (ty_view right.now)) }
         ensures unchanged { OnErr result (self.new ≡ self.old) }
     {
         equate(
@@ -152,8 +155,11 @@ fn equate(
     ensures holding { Holding (equations accepted.new.items) place.new.items trail.new.items }
     ensures named { Named named.new place.new.items trail.new.items }
     ensures long { length place.new.items ≡ length place.old.items }
-    ensures accepted { IfOk result (λ _. equations accepted.new.items ≡ equations accepted.old.items ++ equal (ty_view left.now) (ty_view right.now) ∷ []) }
-    ensures refused { MatchResult result (λ _. Unit {0}) (λ e. Refused e (equations accepted.old.items) (b.solution (bounds trail.old.items)) (ty_view left.now) (ty_view right.now)) }
+    ensures accepted { IfOk result (λ _. equations accepted.new.items ≡ equations accepted.old.items
+        ++ equal (ty_view left.now) (ty_view right.now) ∷ []) }
+    ensures refused { MatchResult result (λ _. Unit {0}) (λ e.
+        Refused e (equations accepted.old.items) (b.solution (bounds trail.old.items)) (ty_view left.now)
+        (ty_view right.now)) }
     ensures unchanged { OnErr result ((accepted.new.items ≡ accepted.old.items) × (trail.new.items ≡ trail.old.items)) }
 {
     match refuse_endless(alloc, place, trail, named, left, right) {
@@ -183,8 +189,11 @@ fn accept(
 ) -> Result<(), NoMemory>
     requires kept { Kept place.old.items trail.old.items }
     requires within { n ≤ length trail.old.items }
-    ensures done { IfOk result (λ _. (equations accepted.new.items ≡ equations accepted.old.items ++ equal (ty_view left.now) (ty_view right.now) ∷ []) × (place.new.items ≡ place.old.items) × (trail.new.items ≡ trail.old.items)) }
-    ensures back { IfErr result (λ _. (accepted.new.items ≡ accepted.old.items) × Back n place.old.items place.new.items trail.old.items trail.new.items) }
+    ensures done { IfOk result (λ _. (equations accepted.new.items ≡ equations accepted.old.items
+        ++ equal (ty_view left.now) (ty_view right.now) ∷ []) × (place.new.items ≡ place.old.items)
+        × (trail.new.items ≡ trail.old.items)) }
+    ensures back { IfErr result (λ _. (accepted.new.items ≡ accepted.old.items)
+        × Back n place.old.items place.new.items trail.old.items trail.new.items) }
 {
     match push_copy(alloc, accepted, left, right) {
         Ok(()) => Ok(()),
@@ -197,7 +206,8 @@ fn accept(
 
 /// Keeps copies of the sides of an equation.
 fn push_copy(alloc: Global, accepted: &mut Vec<Pair>, left: &Ty, right: &Ty) -> Result<(), NoMemory>
-    ensures done { IfOk result (λ _. equations accepted.new.items ≡ equations accepted.old.items ++ equal (ty_view left.now) (ty_view right.now) ∷ []) }
+    ensures done { IfOk result (λ _. equations accepted.new.items ≡ equations accepted.old.items
+        ++ equal (ty_view left.now) (ty_view right.now) ∷ []) }
     ensures same { OnErr result (accepted.new.items ≡ accepted.old.items) }
 {
     let left = left.copy(alloc)?;

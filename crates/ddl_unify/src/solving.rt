@@ -93,7 +93,8 @@ fn keep(
     requires below { Below (ty_view t) (length place.old.items) }
     ensures fine { Fine place.old.items place.new.items trail.old.items trail.new.items }
     ensures named { Named named.new place.new.items trail.new.items }
-    ensures step { IfOk result (λ _. (es : List Equation) → EachBelow es (length place.old.items) → Step place.old.items trail.old.items es (var v) (ty_view t) place.new.items trail.new.items es) }
+    ensures step { IfOk result (λ _. (es : List Equation) → EachBelow es (length place.old.items)
+        → Step place.old.items trail.old.items es (var v) (ty_view t) place.new.items trail.new.items es) }
 {
     if trail.len() >= u32::MAX as usize {
         return Err(NoMemory);
@@ -120,7 +121,8 @@ fn keep_same(
     requires w_within { w < length place.old.items }
     ensures fine { Fine place.old.items place.new.items trail.old.items trail.new.items }
     ensures named { Named named.new place.new.items trail.new.items }
-    ensures step { IfOk result (λ _. (es : List Equation) → EachBelow es (length place.old.items) → Step place.old.items trail.old.items es (var v) (var w) place.new.items trail.new.items es) }
+    ensures step { IfOk result (λ _. (es : List Equation) → EachBelow es (length place.old.items)
+        → Step place.old.items trail.old.items es (var v) (var w) place.new.items trail.new.items es) }
 {
     if v == w {
         return Ok(());
@@ -145,7 +147,8 @@ fn bind(
     requires below { Below (ty_view t) (length place.old.items) }
     ensures fine { Fine place.old.items place.new.items trail.old.items trail.new.items }
     ensures named { Named named.new place.new.items trail.new.items }
-    ensures step { IfOk result (λ b. (es : List Equation) → EachBelow es (length place.old.items) → StepIs b place.old.items trail.old.items es (var v) (ty_view t) place.new.items trail.new.items es) }
+    ensures step { IfOk result (λ b. (es : List Equation) → EachBelow es (length place.old.items)
+        → StepIs b place.old.items trail.old.items es (var v) (ty_view t) place.new.items trail.new.items es) }
 {
     if let Some(w) = unbound(place, trail, &t) {
         keep_same(place, trail, named, v, w)?;
@@ -162,7 +165,8 @@ fn bind(
 fn split(stack: &mut Vec<Pair>, left: Ty, right: Ty) -> Result<bool, NoMemory>
     requires left_con { IsCon (ty_view left) }
     requires right_con { IsCon (ty_view right) }
-    ensures { IfOk result (λ b. SplitIs b (ty_view left) (ty_view right) (equations stack.old.items) (equations stack.new.items)) }
+    ensures { IfOk result (λ b. SplitIs b (ty_view left) (ty_view right) (equations stack.old.items)
+        (equations stack.new.items)) }
 {
     if !is_alike(&left, &right) {
         return Ok(false);
@@ -187,7 +191,8 @@ fn step(
     requires stack_below { EachBelow (equations stack.old.items) (length place.old.items) }
     ensures fine { Fine place.old.items place.new.items trail.old.items trail.new.items }
     ensures named { Named named.new place.new.items trail.new.items }
-    ensures step { IfOk result (λ b. StepIs b place.old.items trail.old.items (equations stack.old.items) (ty_view pair.left) (ty_view pair.right) place.new.items trail.new.items (equations stack.new.items)) }
+    ensures step { IfOk result (λ b. StepIs b place.old.items trail.old.items (equations stack.old.items)
+        (ty_view pair.left) (ty_view pair.right) place.new.items trail.new.items (equations stack.new.items)) }
 {
     let Pair { left, right } = pair;
     if let Some(v) = unbound(place, trail, &left) {
@@ -237,10 +242,12 @@ fn compare(
     requires left_below { Below (ty_view pair.left) (length place.old.items) }
     requires right_below { Below (ty_view pair.right) (length place.old.items) }
     requires stack_below { EachBelow (equations stack.old.items) (length place.old.items) }
-    requires remembers { Remembers compared.old trail.old.items (equations stack.old.items ++ equal (ty_view pair.left) (ty_view pair.right) ∷ []) }
+    requires remembers { Remembers compared.old trail.old.items
+        (equations stack.old.items ++ equal (ty_view pair.left) (ty_view pair.right) ∷ []) }
     ensures fine { Fine place.old.items place.new.items trail.old.items trail.new.items }
     ensures named { Named named.new place.new.items trail.new.items }
-    ensures step { IfOk result (λ b. StepIs b place.old.items trail.old.items (equations stack.old.items) (ty_view pair.left) (ty_view pair.right) place.new.items trail.new.items (equations stack.new.items)) }
+    ensures step { IfOk result (λ b. StepIs b place.old.items trail.old.items (equations stack.old.items)
+        (ty_view pair.left) (ty_view pair.right) place.new.items trail.new.items (equations stack.new.items)) }
     ensures remembers { IfOk result (λ b. OnTrue b (Remembers compared.new trail.new.items (equations stack.new.items))) }
 {
     if compared.knows(v, w) {
@@ -273,10 +280,12 @@ fn turn(
     requires left_below { Below (ty_view pair.left) (length place.old.items) }
     requires right_below { Below (ty_view pair.right) (length place.old.items) }
     requires stack_below { EachBelow (equations stack.old.items) (length place.old.items) }
-    requires remembers { Remembers compared.old trail.old.items (equations stack.old.items ++ equal (ty_view pair.left) (ty_view pair.right) ∷ []) }
+    requires remembers { Remembers compared.old trail.old.items
+        (equations stack.old.items ++ equal (ty_view pair.left) (ty_view pair.right) ∷ []) }
     ensures fine { Fine place.old.items place.new.items trail.old.items trail.new.items }
     ensures named { Named named.new place.new.items trail.new.items }
-    ensures step { IfOk result (λ b. StepIs b place.old.items trail.old.items (equations stack.old.items) (ty_view pair.left) (ty_view pair.right) place.new.items trail.new.items (equations stack.new.items)) }
+    ensures step { IfOk result (λ b. StepIs b place.old.items trail.old.items (equations stack.old.items)
+        (ty_view pair.left) (ty_view pair.right) place.new.items trail.new.items (equations stack.new.items)) }
     ensures remembers { IfOk result (λ b. OnTrue b (Remembers compared.new trail.new.items (equations stack.new.items))) }
 {
     compared.settle(stack.len())?;
@@ -305,7 +314,8 @@ fn solve(
     requires below { EachBelow (equations stack.items) (length place.old.items) }
     ensures fine { Fine place.old.items place.new.items trail.old.items trail.new.items }
     ensures named { Named named.new place.new.items trail.new.items }
-    ensures solved { IfOk result (λ b. SolvedIs b (bounds trail.old.items) (equations stack.items) (bounds trail.new.items)) }
+    ensures solved { IfOk result (λ b. SolvedIs b (bounds trail.old.items) (equations stack.items)
+        (bounds trail.new.items)) }
 {
     let mut compared = Compared::new(alloc);
     while let Some(pair) = stack.pop() {
@@ -358,7 +368,8 @@ pub fn try_solve(
     requires left_below { Below (ty_view left.now) (length place.old.items) }
     requires right_below { Below (ty_view right.now) (length place.old.items) }
     ensures named { Named named.new place.new.items trail.new.items }
-    ensures tried { Tried result place.old.items place.new.items trail.old.items trail.new.items (ty_view left.now) (ty_view right.now) }
+    ensures tried { Tried result place.old.items place.new.items trail.old.items trail.new.items (ty_view left.now)
+        (ty_view right.now) }
 {
     let n = trail.len();
     let mut stack = Vec::new(alloc);

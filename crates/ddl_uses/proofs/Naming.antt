@@ -1,5 +1,6 @@
 -- The names of a module, and those of all modules, one more at a time.
-use Rattle.std.proofs.Common.{◌≡◌, ℕ, zero, suc, ◌+◌, ◌<◌, ◌≤◌, List, [], ◌∷◌, ◌++◌, length, map, take, get_or, Bool, true, false, cond, Option, Some, None, refl, ap, sym, subst, ◌∙◌, add_assoc, add-zero, zero-add, length-append, arith}
+use Rattle.std.proofs.Common.{◌≡◌, ℕ, zero, suc, ◌+◌, ◌<◌, ◌≤◌, List, [], ◌∷◌, ◌++◌, length, map, take, get_or, Bool, true, false, cond, Option, Some, None}
+use Rattle.std.proofs.Common.{refl, ap, sym, subst, ◌∙◌, add_assoc, add-zero, zero-add, length-append, arith}
 use Rattle.std.specs.Prelude.{bytes_eq, slice_get, sum_by}
 use Rattle.std.specs.Option.{option_or}
 use Rattle.std.specs.HashMap.{HashMap}
@@ -34,7 +35,8 @@ or_nothing (two_imports i j) = refl
 or_nothing (one b k ws) = refl
 
 or_kept : (o : Option Numbered) (x : Numbered) (b : Bool)
-    → meaning_of_numbered (option_or o (cond b (Some x) None)) ≡ or_else (meaning_of_numbered o) (cond b (meaning_of_decl x.number (decl_view x.decl.now)) nothing)
+    → meaning_of_numbered (option_or o (cond b (Some x) None))
+    ≡ or_else (meaning_of_numbered o) (cond b (meaning_of_decl x.number (decl_view x.decl.now)) nothing)
 or_kept None x true = refl
 or_kept None x false = refl
 or_kept (Some y) x b = refl
@@ -47,18 +49,22 @@ added old new text x e u q =
     ∙ ap (λ t. or_else (meaning_of_numbered (at_text old q)) (cond (bytes_eq t q) (meaning_of_decl x.number (decl_view x.decl.now)) nothing)) e
 
 -- among declarations one after the other a name means what it means among the first, or else what it means among the others
-among_append : (n : ℕ) (ds es : List mo.Decl) (text : List ℕ) → meaning_among n (ds ++ es) text ≡ or_else (meaning_among n ds text) (meaning_among (n + length ds) es text)
+among_append : (n : ℕ) (ds es : List mo.Decl) (text : List ℕ)
+    → meaning_among n (ds ++ es) text ≡ or_else (meaning_among n ds text) (meaning_among (n + length ds) es text)
 among_append n [] es text = ap (λ k. meaning_among k es text) (sym (add-zero n))
 among_append n (d ∷ ds) es text =
-    by (bytes_eq (decl_name d).text text) (among_append (n + 1) ds es text ∙ ap (λ k. or_else (meaning_among (n + 1) ds text) (meaning_among k es text)) (omega arith))
+    by (bytes_eq (decl_name d).text text) (among_append (n + 1) ds es text
+    ∙ ap (λ k. or_else (meaning_among (n + 1) ds text) (meaning_among k es text)) (omega arith))
   where
     by : (b : Bool) → meaning_among (n + 1) (ds ++ es) text ≡ or_else (meaning_among (n + 1) ds text) (meaning_among (n + suc (length ds)) es text)
-        → cond b (meaning_of_decl n d) (meaning_among (n + 1) (ds ++ es) text) ≡ or_else (cond b (meaning_of_decl n d) (meaning_among (n + 1) ds text)) (meaning_among (n + suc (length ds)) es text)
+        → cond b (meaning_of_decl n d) (meaning_among (n + 1) (ds ++ es) text)
+        ≡ or_else (cond b (meaning_of_decl n d) (meaning_among (n + 1) ds text)) (meaning_among (n + suc (length ds)) es text)
     by true h = refl
     by false h = h
 
 -- the names of the first k declarations, and one more
-pub meanings_more : {S : Type 0} (n k m : ℕ) (ds : List Decl) (d : Decl) (old new : HashMap (Bor (List ℕ)) Numbered S) → k < length ds → d ≡ get_or ds k d → m ≡ n + k
+pub meanings_more : {S : Type 0} (n k m : ℕ) (ds : List Decl) (d : Decl) (old new : HashMap (Bor (List ℕ)) Numbered S) → k < length ds → d ≡ get_or ds k d
+    → m ≡ n + k
     → ((q : List ℕ) → meaning_of_numbered (at_text old q) ≡ meaning_among n (map decl_view (take k ds)) q)
     → ((q : List ℕ) → meaning_of_numbered (at_text new q) ≡ or_else (meaning_of_numbered (at_text old q)) (meaning_among m (decl_view d ∷ []) q))
     → (q : List ℕ) → meaning_of_numbered (at_text new q) ≡ meaning_among n (map decl_view (take (k + 1) ds)) q
@@ -133,10 +139,12 @@ none_named us = record {
     nothing_there zero text = refl
     nothing_there (suc m) text = refl
 
-pub one_named : (us : List SourceUnit) (k : ℕ) (u : SourceUnit) (names : List ModuleNames) (x : ModuleNames) (first next : ℕ) → k < length us → u ≡ get_or us k u
+pub one_named : (us : List SourceUnit) (k : ℕ) (u : SourceUnit) (names : List ModuleNames) (x : ModuleNames) (first next : ℕ) → k < length us
+    → u ≡ get_or us k u
     → AreNamed (take k us) names first → ((text : List ℕ) → meaning_in (Some x) text ≡ meaning_among first (map decl_view u.tree.decls.items) text)
     → next ≡ first + length u.tree.decls.items → AreNamed (take (k + 1) us) (names ++ x ∷ []) next
-one_named us k u names x first next less e h new more = subst (λ vs. AreNamed vs (names ++ x ∷ []) next) (sym (take_more us k u less ∙ ap (λ v. take k us ++ v ∷ []) (sym e))) one
+one_named us k u names x first next less e h new more =
+    subst (λ vs. AreNamed vs (names ++ x ∷ []) next) (sym (take_more us k u less ∙ ap (λ v. take k us ++ v ∷ []) (sym e))) one
   where
     units : List Loaded
     units = loaded (take k us)
@@ -162,17 +170,21 @@ one_named us k u names x first next less e h new more = subst (λ vs. AreNamed v
         sum_by_single v = sum_by-cons size v [] ∙ add-zero (size v)
 
         sized : sum_by size units + length u.tree.decls.items ≡ sum_by size (units ++ unit_view u ∷ [])
-        sized = ap (λ n. sum_by size units + n) (sym (length-map u.tree.decls.items decl_view) ∙ sym (sum_by_single (unit_view u))) ∙ sym (sum_by-append size units (unit_view u ∷ []))
+        sized = ap (λ n. sum_by size units + n) (sym (length-map u.tree.decls.items decl_view) ∙ sym (sum_by_single (unit_view u)))
+            ∙ sym (sum_by-append size units (unit_view u ∷ []))
 
 -- the same, as a program has its parts
-pub module_named : (us : List SourceUnit) (k : ℕ) (u : SourceUnit) (ds : List Decl) (names all : List ModuleNames) (x : ModuleNames) (first next : ℕ) → k < length us → u ≡ get_or us k u
+pub module_named : (us : List SourceUnit) (k : ℕ) (u : SourceUnit) (ds : List Decl) (names all : List ModuleNames) (x : ModuleNames) (first next : ℕ)
+    → k < length us → u ≡ get_or us k u
     → AreNamed (take k us) names first → ds ≡ u.tree.decls.items → ((text : List ℕ) → meaning_in (Some x) text ≡ meaning_among first (map decl_view ds) text)
     → next ≡ first + length ds → all ≡ names ++ x ∷ [] → AreNamed (take (k + 1) us) all next
 module_named us k u ds names all x first next less e h same new more more_names =
     subst (λ ns. AreNamed (take (k + 1) us) ns next) (sym more_names)
-    (one_named us k u names x first next less e h (λ t. new t ∙ ap (λ es. meaning_among first (map decl_view es) t) same) (more ∙ ap (λ es. first + length es) same))
+    (one_named us k u names x first next less e h (λ t. new t ∙ ap (λ es. meaning_among first (map decl_view es) t) same) (more
+    ∙ ap (λ es. first + length es) same))
 
-pub all_named : (us : List SourceUnit) (k : ℕ) (names : List ModuleNames) (next : ℕ) → length us ≤ k → AreNamed (take k us) names next → AreNames (loaded us) names
+pub all_named : (us : List SourceUnit) (k : ℕ) (names : List ModuleNames) (next : ℕ) → length us ≤ k → AreNamed (take k us) names next
+    → AreNames (loaded us) names
 all_named us k names next past h = subst (λ vs. AreNames (loaded vs) names) (take_all k us past) h.known
 
 pub ruleset naming = (all_wanted, added, all_meant, none_named, all_named)

@@ -1,21 +1,25 @@
 -- What names mean that are no local ones.
-use Rattle.std.proofs.Common.{◌≡◌, ℕ, zero, suc, ◌<◌, ◌≤◌, List, [], ◌∷◌, length, map, get_or, Bool, true, false, cond, Option, Some, None, refl, ap, sym, subst, ◌∙◌, true≢false, is_some, eq-eqb, ◌+◌, arith}
+use Rattle.std.proofs.Common.{◌≡◌, ℕ, zero, suc, ◌<◌, ◌≤◌, List, [], ◌∷◌, length, map, get_or, Bool, true, false, cond, Option, Some, None, refl, ap, sym}
+use Rattle.std.proofs.Common.{subst, ◌∙◌, true≢false, is_some, eq-eqb, ◌+◌, arith}
 use Rattle.std.specs.Prelude.{bytes_eq, find, filter, not, ◌&&◌, nat_eq, unwrap_or}
 use Rattle.std.proofs.lemmas.Option.{slice_get-get_or, slice_get_past}
 use Rattle.ddl_tree.specs.declared.module.SourceUnit.{SourceUnit}
 use Rattle.ddl_tree.specs.ModuleTree as mo
 use Rattle.ddl_uses.specs.declared.module_names.ModuleNames.{ModuleNames}
-use Rattle.ddl_uses.specs.Bindings.{Loaded, or_else, only_or_two, is_bound, is_declared, imported_by, imports_of, declared, decls_of, first_number, meaning_among, meaning_of_decl}
+use Rattle.ddl_uses.specs.Bindings.{Loaded, or_else, only_or_two, is_bound, is_declared, imported_by, imports_of, declared, decls_of, first_number}
+use Rattle.ddl_uses.specs.Bindings.{meaning_among, meaning_of_decl}
 use Rattle.ddl_kinds.specs.Meanings.{Meaning, nothing, two_imports, one, decl_name}
 use Rattle.ddl_uses.specs.Walks.{AreNames, is_other, meaning_in, unit_view}
 
 -- ---- the names of a module
 
-pub named : (units : List Loaded) (names : List ModuleNames) (m : ℕ) (text : List ℕ) (n : ModuleNames) → AreNames units names → m < length names → n ≡ get_or names m n
+pub named : (units : List Loaded) (names : List ModuleNames) (m : ℕ) (text : List ℕ) (n : ModuleNames) → AreNames units names → m < length names
+    → n ≡ get_or names m n
     → meaning_in (Some n) text ≡ declared units m text
 named units names m text n h less e = ap (λ o. meaning_in o text) (ap Some e ∙ sym (slice_get-get_or names m n less)) ∙ h m text
 
-pub unnamed : (units : List Loaded) (names : List ModuleNames) (m : ℕ) (text : List ℕ) → AreNames units names → length names ≤ m → nothing ≡ declared units m text
+pub unnamed : (units : List Loaded) (names : List ModuleNames) (m : ℕ) (text : List ℕ) → AreNames units names → length names ≤ m
+    → nothing ≡ declared units m text
 unnamed units names m text h past = ap (λ o. meaning_in o text) (sym (slice_get_past names m past)) ∙ h m text
 
 among : (n : ℕ) (ds : List mo.Decl) (text : List ℕ) → is_bound (meaning_among n ds text) ≡ is_some (find (λ d. bytes_eq (decl_name d).text text) ds)
@@ -53,11 +57,13 @@ find_filter : (p r : ℕ → Bool) (ms : List ℕ) → find r (filter p ms) ≡ 
 find_filter p r [] = refl
 find_filter p r (m ∷ ms) = by (p m) (find_filter p r ms)
   where
-    passes : (c : Bool) → find r (filter p ms) ≡ find (λ i. r i && p i) ms → cond c (Some m) (find r (filter p ms)) ≡ cond (c && true) (Some m) (find (λ i. r i && p i) ms)
+    passes : (c : Bool) → find r (filter p ms) ≡ find (λ i. r i && p i) ms
+        → cond c (Some m) (find r (filter p ms)) ≡ cond (c && true) (Some m) (find (λ i. r i && p i) ms)
     passes true h = refl
     passes false h = h
 
-    by : (b : Bool) → find r (filter p ms) ≡ find (λ i. r i && p i) ms → find r (cond b (m ∷ filter p ms) (filter p ms)) ≡ cond (r m && b) (Some m) (find (λ i. r i && p i) ms)
+    by : (b : Bool) → find r (filter p ms) ≡ find (λ i. r i && p i) ms
+        → find r (cond b (m ∷ filter p ms) (filter p ms)) ≡ cond (r m && b) (Some m) (find (λ i. r i && p i) ms)
     by true h = passes (r m) h
     by false h = h ∙ sym (never (r m) (Some m) (find (λ i. r i && p i) ms))
 
@@ -74,31 +80,38 @@ import_found units text first (m ∷ ms) h = by (is_declared units text m) h (im
         ≡ only_or_two m (cond (not (nat_eq m m) && true) (Some m) (find (is_other units text m) ms)) (declared units m text)
     itself =
         ap (λ o. only_or_two m o (declared units m text))
-        (find_filter (is_declared units text) (λ i. not (nat_eq i m)) ms ∙ sym (ap (λ t. cond (not t && true) (Some m) (find (is_other units text m) ms)) (eq-eqb m m refl)))
+        (find_filter (is_declared units text) (λ i. not (nat_eq i m)) ms
+        ∙ sym (ap (λ t. cond (not t && true) (Some m) (find (is_other units text m) ms)) (eq-eqb m m refl)))
 
     by : (b : Bool) → cond b (Some m) (find (is_declared units text) ms) ≡ Some first
-        → (find (is_declared units text) ms ≡ Some first → imported_by units text others ≡ only_or_two first (find (is_other units text first) ms) (declared units first text))
+        → (find (is_declared units text) ms ≡ Some first → imported_by units text others
+        ≡ only_or_two first (find (is_other units text first) ms) (declared units first text))
         → imported_by units text (cond b (m ∷ others) others)
         ≡ only_or_two first (cond (not (nat_eq m first) && b) (Some m) (find (is_other units text first) ms)) (declared units first text)
     by true h more =
         subst (λ (k : ℕ). only_or_two m (find (λ i. not (nat_eq i m)) others) (declared units m text)
         ≡ only_or_two k (cond (not (nat_eq m k) && true) (Some m) (find (is_other units text k) ms)) (declared units k text))
         (ap (λ o. unwrap_or o 0) h) itself
-    by false h more = more h ∙ ap (λ o. only_or_two first o (declared units first text)) (sym (never (not (nat_eq m first)) (Some m) (find (is_other units text first) ms)))
+    by false h more = more h ∙ ap (λ o. only_or_two first o (declared units first text))
+        (sym (never (not (nat_eq m first)) (Some m) (find (is_other units text first) ms)))
 
-pub import_one : (units : List Loaded) (text : List ℕ) (first : ℕ) (ms : List ℕ) → find (is_declared units text) ms ≡ Some first → find (is_other units text first) ms ≡ None
+pub import_one : (units : List Loaded) (text : List ℕ) (first : ℕ) (ms : List ℕ) → find (is_declared units text) ms ≡ Some first
+    → find (is_other units text first) ms ≡ None
     → declared units first text ≡ imported_by units text (filter (is_declared units text) ms)
 import_one units text first ms h alone = sym (import_found units text first ms h ∙ ap (λ o. only_or_two first o (declared units first text)) alone)
 
-pub import_two : (units : List Loaded) (text : List ℕ) (first second : ℕ) (ms : List ℕ) → find (is_declared units text) ms ≡ Some first → find (is_other units text first) ms ≡ Some second
+pub import_two : (units : List Loaded) (text : List ℕ) (first second : ℕ) (ms : List ℕ) → find (is_declared units text) ms ≡ Some first
+    → find (is_other units text first) ms ≡ Some second
     → two_imports first second ≡ imported_by units text (filter (is_declared units text) ms)
 import_two units text first second ms h two = sym (import_found units text first ms h ∙ ap (λ o. only_or_two first o (declared units first text)) two)
 
-pub import_none : (units : List Loaded) (text : List ℕ) (ms : List ℕ) → find (is_declared units text) ms ≡ None → nothing ≡ imported_by units text (filter (is_declared units text) ms)
+pub import_none : (units : List Loaded) (text : List ℕ) (ms : List ℕ) → find (is_declared units text) ms ≡ None
+    → nothing ≡ imported_by units text (filter (is_declared units text) ms)
 import_none units text [] h = refl
 import_none units text (m ∷ ms) h = by (is_declared units text m) h (import_none units text ms)
   where
-    by : (b : Bool) → cond b (Some m) (find (is_declared units text) ms) ≡ None → (find (is_declared units text) ms ≡ None → nothing ≡ imported_by units text (filter (is_declared units text) ms))
+    by : (b : Bool) → cond b (Some m) (find (is_declared units text) ms) ≡ None
+        → (find (is_declared units text) ms ≡ None → nothing ≡ imported_by units text (filter (is_declared units text) ms))
         → nothing ≡ imported_by units text (cond b (m ∷ filter (is_declared units text) ms) (filter (is_declared units text) ms))
     by true h more = absurd (true≢false (ap is_some h))
     by false h more = more h

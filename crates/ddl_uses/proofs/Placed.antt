@@ -17,15 +17,18 @@ pub names_more : (ps : List Place) (p : Place) → map place_view (ps ++ p ∷ [
 names_more ps p = map-append place_view ps (p ∷ [])
 
 -- the first place of one name more
-first_more : (xs : List Name) (x : Name) (q : List ℕ) → first_place (xs ++ x ∷ []) q ≡ option_or (first_place xs q) (cond (bytes_eq x.text q) (Some x.span) None)
+first_more : (xs : List Name) (x : Name) (q : List ℕ) → first_place (xs ++ x ∷ []) q
+    ≡ option_or (first_place xs q) (cond (bytes_eq x.text q) (Some x.span) None)
 first_more xs x q = ap (option_map (λ y. y.span)) (find-append (λ y. bytes_eq y.text q) xs (x ∷ [])) ∙ by (find (λ y. bytes_eq y.text q) xs) (bytes_eq x.text q)
   where
-    by : (o : Option Name) (b : Bool) → option_map (λ y. y.span) (option_or o (cond b (Some x) None)) ≡ option_or (option_map (λ y. y.span) o) (cond b (Some x.span) None)
+    by : (o : Option Name) (b : Bool) → option_map (λ y. y.span) (option_or o (cond b (Some x) None))
+        ≡ option_or (option_map (λ y. y.span) o) (cond b (Some x.span) None)
     by None true = refl
     by None false = refl
     by (Some y) b = refl
 
-pub placed_more : {S : Type 0} (all ps : List Place) (p : Place) (old new : HashMap (Bor (List ℕ)) Span S) → ArePlaced (map place_view ps) old → all ≡ ps ++ p ∷ []
+pub placed_more : {S : Type 0} (all ps : List Place) (p : Place) (old new : HashMap (Bor (List ℕ)) Span S) → ArePlaced (map place_view ps) old
+    → all ≡ ps ++ p ∷ []
     → ((q : List ℕ) → at_text new q ≡ option_or (at_text old q) (cond (bytes_eq p.text.now q) (Some p.span) None)) → ArePlaced (map place_view all) new
 placed_more all ps p old new h e u q =
     u q ∙ ap (λ o. option_or o (cond (bytes_eq p.text.now q) (Some p.span) None)) (h q) ∙ sym (first_more (map place_view ps) (place_view p) q)

@@ -1,5 +1,6 @@
 -- One local name more, one less, and the search for the innermost.
-use Rattle.std.proofs.Common.{◌≡◌, ℕ, suc, ◌<◌, List, [], ◌∷◌, ◌++◌, length, map, reverse, drop, get_or, Bool, true, false, cond, Some, None, refl, ap, sym, subst, ◌∙◌, true≢false, is_some, arith}
+use Rattle.std.proofs.Common.{◌≡◌, ℕ, suc, ◌<◌, List, [], ◌∷◌, ◌++◌, length, map, reverse, drop, get_or, Bool, true, false, cond, Some, None, refl, ap, sym}
+use Rattle.std.proofs.Common.{subst, ◌∙◌, true≢false, is_some, arith}
 use Rattle.std.specs.Prelude.{bytes_eq, find, unwrap_or}
 use Rattle.std.specs.HashMap.{HashMap}
 use Rattle.std.specs.Cmp.Lexicographic.{bytes_decides}
@@ -64,7 +65,8 @@ IsFoundIn rs text n d = (n < length rs) × (find (λ l. bytes_eq l.name.text tex
 
 found_here : (rs : List Local) (l : Local) (n : ℕ) (d : Local) → length rs ≡ n → local_view l ≡ local_view (get_or (reverse (l ∷ rs)) n d)
 found_here rs l n d e =
-    ap local_view (sym (ap (λ r. get_or r n d) (last_of rs l) ∙ ap (λ k. get_or (reverse rs ++ l ∷ []) k d) (sym e ∙ sym (length-reverse rs)) ∙ get_or-append_seam (reverse rs) l [] d))
+    ap local_view (sym (ap (λ r. get_or r n d) (last_of rs l) ∙ ap (λ k. get_or (reverse rs ++ l ∷ []) k d) (sym e ∙ sym (length-reverse rs))
+    ∙ get_or-append_seam (reverse rs) l [] d))
 
 found_before : (rs : List Local) (l : Local) (n : ℕ) (d : Local) → n < length rs → get_or (reverse rs) n d ≡ get_or (reverse (l ∷ rs)) n d
 found_before rs l n d h =
@@ -75,7 +77,8 @@ found_in [] text n d e = absurd (true≢false (sym (ap is_some e)))
 found_in (l ∷ rs) text n d e = by (bytes_eq l.name.now.text text) (found_in rs text n d) e
   where
     by : (b : Bool) → (number_of rs text ≡ Some n → IsFoundIn rs text n d) → cond b (Some (length rs)) (number_of rs text) ≡ Some n
-        → (n < suc (length rs)) × (cond b (Some (local_view l)) (find (λ l. bytes_eq l.name.text text) (map local_view rs)) ≡ Some (local_view (get_or (reverse (l ∷ rs)) n d)))
+        → (n < suc (length rs)) × (cond b (Some (local_view l)) (find (λ l. bytes_eq l.name.text text) (map local_view rs))
+        ≡ Some (local_view (get_or (reverse (l ∷ rs)) n d)))
     by true more e = let same : length rs ≡ n = ap (λ o. unwrap_or o 0) e in (omega arith, ap Some (found_here rs l n d same))
     by false more e =
         let h : IsFoundIn rs text n d = more e in
@@ -86,24 +89,28 @@ none_in : (rs : List Local) (text : List ℕ) → number_of rs text ≡ None →
 none_in [] text e = refl
 none_in (l ∷ rs) text e = by (bytes_eq l.name.now.text text) (none_in rs text) e
   where
-    by : (b : Bool) → (number_of rs text ≡ None → find (λ l. bytes_eq l.name.text text) (map local_view rs) ≡ None) → cond b (Some (length rs)) (number_of rs text) ≡ None
+    by : (b : Bool) → (number_of rs text ≡ None → find (λ l. bytes_eq l.name.text text) (map local_view rs) ≡ None)
+        → cond b (Some (length rs)) (number_of rs text) ≡ None
         → cond b (Some (local_view l)) (find (λ l. bytes_eq l.name.text text) (map local_view rs)) ≡ None
     by true more e = absurd (true≢false (ap is_some e))
     by false more e = more e
 
-pub found_within : {S : Type 0} (ls : List Local) (latest : HashMap (Bor (List ℕ)) ℕ S) (text : List ℕ) (n : ℕ) → IsLatest ls latest → at_text latest text ≡ Some n → n < length ls
+pub found_within : {S : Type 0} (ls : List Local) (latest : HashMap (Bor (List ℕ)) ℕ S) (text : List ℕ) (n : ℕ) → IsLatest ls latest
+    → at_text latest text ≡ Some n → n < length ls
 found_within ls latest text n h e = by ls refl (sym (h.1 text) ∙ e)
   where
     by : (xs : List Local) → ls ≡ xs → number_of (reverse ls) text ≡ Some n → n < length ls
     by [] q e = absurd (true≢false (sym (ap is_some e) ∙ ap (λ xs. is_some (number_of (reverse xs) text)) q))
     by (l ∷ xs) q e = subst (λ k. n < k) (length-reverse ls) (found_in (reverse ls) text n l e).0
 
-pub found_at : {S : Type 0} (ls : List Local) (latest : HashMap (Bor (List ℕ)) ℕ S) (text : List ℕ) (n : ℕ) (d : Local) → IsLatest ls latest → at_text latest text ≡ Some n
+pub found_at : {S : Type 0} (ls : List Local) (latest : HashMap (Bor (List ℕ)) ℕ S) (text : List ℕ) (n : ℕ) (d : Local) → IsLatest ls latest
+    → at_text latest text ≡ Some n
     → in_scope (names_view ls) text ≡ Some (local_view (get_or ls n d))
 found_at ls latest text n d h e =
     (found_in (reverse ls) text n d (sym (h.1 text) ∙ e)).1 ∙ ap (λ r. Some (local_view (get_or r n d))) (reverse-reverse ls)
 
-pub found_none : {S : Type 0} (ls : List Local) (latest : HashMap (Bor (List ℕ)) ℕ S) (text : List ℕ) → IsLatest ls latest → at_text latest text ≡ None → in_scope (names_view ls) text ≡ None
+pub found_none : {S : Type 0} (ls : List Local) (latest : HashMap (Bor (List ℕ)) ℕ S) (text : List ℕ) → IsLatest ls latest → at_text latest text ≡ None
+    → in_scope (names_view ls) text ≡ None
 found_none ls latest text h e = none_in (reverse ls) text (sym (h.1 text) ∙ e)
 
 pub ruleset scoped = (bound_view, bound_latest, forgotten_view, forgotten_latest, found_within, found_at, found_none)

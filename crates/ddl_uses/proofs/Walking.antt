@@ -40,19 +40,23 @@ drop_next (suc i) [] = rw add-one refl
 drop_next (suc i) (w ∷ ws) = rw add-one (drop_next i ws ∙ ap (λ k. drop k ws) (add-one i))
 
 pub next_argument : (site : Site) (xs : List Expr) (i : ℕ) (x : Expr) (ws : List Want) (scope : Scope) → x ≡ get_or xs i x → i < length xs →
-    arguments site (exprs_view (drop i xs)) (drop i ws) scope ≡ findings site (view x) (next_want (drop i ws)) scope ++ arguments site (exprs_view (drop (i + 1) xs)) (drop (i + 1) ws) scope
+    arguments site (exprs_view (drop i xs)) (drop i ws) scope ≡ findings site (view x) (next_want (drop i ws)) scope
+    ++ arguments site (exprs_view (drop (i + 1) xs)) (drop (i + 1) ws) scope
 next_argument site xs i x ws scope e h =
     ap (λ ys. arguments site (exprs_view ys) (drop i ws) scope) (next xs i x e h)
     ∙ ap (λ vs. findings site (view x) (next_want (drop i ws)) scope ++ arguments site (exprs_view (drop (i + 1) xs)) vs scope) (drop_next i ws)
 
-pub no_argument : (site : Site) (xs : List Expr) (i : ℕ) (ws : List Want) (scope : Scope) → length xs ≤ i → arguments site (exprs_view (drop i xs)) ws scope ≡ []
+pub no_argument : (site : Site) (xs : List Expr) (i : ℕ) (ws : List Want) (scope : Scope) → length xs ≤ i
+    → arguments site (exprs_view (drop i xs)) ws scope ≡ []
 no_argument site xs i ws scope h = ap (λ ys. arguments site (exprs_view ys) ws scope) (drop_all i xs h)
 
 -- ---- fields and tags
 
-pub next_binding : (site : Site) (xs : List Binding) (i : ℕ) (x : Binding) (want : Want) (before : List Name) (scope : Scope) → x ≡ get_or xs i x → i < length xs →
+pub next_binding : (site : Site) (xs : List Binding) (i : ℕ) (x : Binding) (want : Want) (before : List Name) (scope : Scope) → x ≡ get_or xs i x
+    → i < length xs →
     bindings site (bindings_view (drop i xs)) want before scope
-    ≡ again before (binding_view x).name ++ findings site (binding_view x).value want scope ++ bindings site (bindings_view (drop (i + 1) xs)) want (before ++ (binding_view x).name ∷ []) scope
+    ≡ again before (binding_view x).name ++ findings site (binding_view x).value want scope
+    ++ bindings site (bindings_view (drop (i + 1) xs)) want (before ++ (binding_view x).name ∷ []) scope
 next_binding site xs i x want before scope e h = ap (λ ys. bindings site (bindings_view ys) want before scope) (next xs i x e h)
 
 pub no_binding : (site : Site) (xs : List Binding) (i : ℕ) (want : Want) (before : List Name) (scope : Scope) → length xs ≤ i →
@@ -63,10 +67,12 @@ no_binding site xs i want before scope h = ap (λ ys. bindings site (bindings_vi
 
 pub next_item : (site : Site) (xs : List Item) (i : ℕ) (x : Item) (before : List Name) (scope : Scope) → x ≡ get_or xs i x → i < length xs →
     items site (items_view (drop i xs)) before scope
-    ≡ once_again before (once (item_view x)) ++ item_findings site (item_view x) scope ++ items site (items_view (drop (i + 1) xs)) (before ++ once (item_view x)) (after_item (item_view x) scope)
+    ≡ once_again before (once (item_view x)) ++ item_findings site (item_view x) scope
+    ++ items site (items_view (drop (i + 1) xs)) (before ++ once (item_view x)) (after_item (item_view x) scope)
 next_item site xs i x before scope e h = ap (λ ys. items site (items_view ys) before scope) (next xs i x e h)
 
-pub no_item : (site : Site) (xs : List Item) (i : ℕ) (before : List Name) (scope : Scope) → length xs ≤ i → items site (items_view (drop i xs)) before scope ≡ []
+pub no_item : (site : Site) (xs : List Item) (i : ℕ) (before : List Name) (scope : Scope) → length xs ≤ i
+    → items site (items_view (drop i xs)) before scope ≡ []
 no_item site xs i before scope h = ap (λ ys. items site (items_view ys) before scope) (drop_all i xs h)
 
 -- ---- branches

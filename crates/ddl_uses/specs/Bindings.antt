@@ -1,6 +1,7 @@
 -- What a name means: the innermost local name, else this module's declaration, else that of the one explicit import
 -- that declares it, else the prelude's, else the built-in name.
-use Rattle.std.specs.Prelude.{ℕ, ◌+◌, List, [], ◌∷◌, Option, Some, None, Bool, true, false, not, find, filter, map, length, take, sum_by, slice_index_or, nat_eq, if◌then◌else◌, bytes_eq, is_some}
+use Rattle.std.specs.Prelude.{ℕ, ◌+◌, List, [], ◌∷◌, Option, Some, None, Bool, true, false, not, find, filter, map, length, take, sum_by, slice_index_or}
+use Rattle.std.specs.Prelude.{nat_eq, if◌then◌else◌, bytes_eq, is_some}
 use Rattle.ddl_tree.specs.declared.name.Name.{Name}
 use Rattle.ddl_tree.specs.ModuleTree as mo
 use Rattle.ddl_kinds.specs.declared.builtin.BuiltIn.{BuiltIn}

@@ -66,8 +66,10 @@ module _ (site : Site) where
     pub findings : ex.Expr → Want → Scope → List Finding
     findings (ex.Infix o a b s) want scope = fits want (form_of_infix o) s ++ findings a (sides o) scope ++ findings b (sides o) scope
     findings (ex.Pure a s) want scope = fits want f.Grammar s ++ findings a w.Value scope
-    findings (ex.If c a b s) want scope = fits want f.Either s ++ findings c w.Value scope ++ findings a (settled want (free_want a)) scope ++ findings b (settled want (free_want a)) scope
-    findings (ex.For x i ns l b s) want scope = fits want f.Either s ++ findings i w.Value scope ++ findings l w.Value scope ++ findings b want (after_names ns (value x ∷ scope))
+    findings (ex.If c a b s) want scope = fits want f.Either s ++ findings c w.Value scope ++ findings a (settled want (free_want a)) scope
+        ++ findings b (settled want (free_want a)) scope
+    findings (ex.For x i ns l b s) want scope = fits want f.Either s ++ findings i w.Value scope ++ findings l w.Value scope
+        ++ findings b want (after_names ns (value x ∷ scope))
     findings (ex.Map ns l b s) want scope = fits want f.Either s ++ findings l w.Value scope ++ findings b want (after_names ns scope)
     findings (ex.Is a p s) want scope = fits want f.Grammar s ++ findings a w.Value scope
     findings (ex.Prefix o a s) want scope = fits want f.Value s ++ findings a w.Value scope

@@ -26,7 +26,9 @@ impl<'a> Walk<'a> {
         of: &'a [Item],
     ) -> Result<(), NameError>
         requires { IsWalk self.old }
-        ensures found { Finds (fits want Form.Grammar span ++ items (site_view self.old.outer) (items_view of.now) [] (scope_view self.old.scope)) self.old.uses.items self.new.uses.items result }
+        ensures found { Finds (fits want Form.Grammar span
+            ++ items (site_view self.old.outer) (items_view of.now) [] (scope_view self.old.scope)) self.old.uses.items
+            self.new.uses.items result }
         ensures kept { OnOk result (IsKept self.old self.new) }
     {
         fits(&self.uses, want, Form::Grammar, span)?;
@@ -39,7 +41,8 @@ impl<'a> Walk<'a> {
     #[tactic(auto, using(ddl_kinds::proofs::Finding::finding))]
     fn take_block(&mut self, of: &'a [Item]) -> Result<(), NameError>
         requires { IsWalk self.old }
-        ensures found { Finds (items (site_view self.old.outer) (items_view of.now) [] (scope_view self.old.scope)) self.old.uses.items self.new.uses.items result }
+        ensures found { Finds (items (site_view self.old.outer) (items_view of.now) [] (scope_view self.old.scope))
+            self.old.uses.items self.new.uses.items result }
         ensures kept { OnOk result (IsKept self.old self.new) }
     {
         let len = self.scope.len();
@@ -53,8 +56,10 @@ impl<'a> Walk<'a> {
     #[tactic(auto, using(ddl_kinds::proofs::Finding::finding, crate::proofs::Walking::walking, crate::proofs::Outermost::outermosts, crate::proofs::Left::lefts))]
     fn take_items(&mut self, of: &'a [Item]) -> Result<(), NameError>
         requires { IsWalk self.old }
-        ensures found { Finds (items (site_view self.old.outer) (items_view of.now) [] (scope_view self.old.scope)) self.old.uses.items self.new.uses.items result }
-        ensures below { OnOk result (outermost (length (scope_view self.old.scope)) (scope_view self.new.scope) ≡ scope_view self.old.scope) }
+        ensures found { Finds (items (site_view self.old.outer) (items_view of.now) [] (scope_view self.old.scope))
+            self.old.uses.items self.new.uses.items result }
+        ensures below { OnOk result (outermost (length (scope_view self.old.scope)) (scope_view self.new.scope)
+            ≡ scope_view self.old.scope) }
         ensures here { OnOk result (self.new.outer ≡ self.old.outer) }
         ensures sound { OnOk result (IsWalk self.new) }
     {
@@ -72,7 +77,8 @@ impl<'a> Walk<'a> {
     #[tactic(auto, using(ddl_tree::proofs::Layers::layers, ddl_kinds::proofs::Finding::finding))]
     fn take_item(&mut self, item: &'a Item) -> Result<(), NameError>
         requires { IsWalk self.old }
-        ensures found { Finds (item_findings (site_view self.old.outer) (item_view item.now) (scope_view self.old.scope)) self.old.uses.items self.new.uses.items result }
+        ensures found { Finds (item_findings (site_view self.old.outer) (item_view item.now)
+            (scope_view self.old.scope)) self.old.uses.items self.new.uses.items result }
         ensures kept { OnOk result (IsKept self.old self.new) }
     {
         match item {
@@ -98,7 +104,9 @@ impl<'a> Walk<'a> {
         body: &'a Expr,
     ) -> Result<(), NameError>
         requires { IsWalk self.old }
-        ensures found { Finds (findings (site_view self.old.outer) (view body.now) want (after_names names.now (value state.now ∷ scope_view self.old.scope))) self.old.uses.items self.new.uses.items result }
+        ensures found { Finds (findings (site_view self.old.outer) (view body.now) want
+            (after_names names.now (value state.now ∷ scope_view self.old.scope))) self.old.uses.items
+            self.new.uses.items result }
         ensures kept { OnOk result (IsKept self.old self.new) }
     {
         let len = self.scope.len();
@@ -119,7 +127,8 @@ impl<'a> Walk<'a> {
         body: &'a Expr,
     ) -> Result<(), NameError>
         requires { IsWalk self.old }
-        ensures found { Finds (findings (site_view self.old.outer) (view body.now) want (after_names names.now (scope_view self.old.scope))) self.old.uses.items self.new.uses.items result }
+        ensures found { Finds (findings (site_view self.old.outer) (view body.now) want
+            (after_names names.now (scope_view self.old.scope))) self.old.uses.items self.new.uses.items result }
         ensures kept { OnOk result (IsKept self.old self.new) }
     {
         let len = self.scope.len();
@@ -134,7 +143,9 @@ impl<'a> Walk<'a> {
     #[tactic(auto, using(ddl_kinds::proofs::Finding::finding))]
     pub(crate) fn take_case(&mut self, want: Want, alts: &'a [Alt]) -> Result<(), NameError>
         requires { IsWalk self.old }
-        ensures found { Finds (branches (site_view self.old.outer) (alts_view alts.now) (settled want (first_want (alts_view alts.now))) (scope_view self.old.scope)) self.old.uses.items self.new.uses.items result }
+        ensures found { Finds (branches (site_view self.old.outer) (alts_view alts.now)
+            (settled want (first_want (alts_view alts.now))) (scope_view self.old.scope)) self.old.uses.items
+            self.new.uses.items result }
         ensures kept { OnOk result (IsKept self.old self.new) }
     {
         let branch = settled_by(want, alts);
@@ -146,7 +157,8 @@ impl<'a> Walk<'a> {
     #[tactic(auto, using(ddl_kinds::proofs::Finding::finding, crate::proofs::Walking::walking))]
     fn take_branches(&mut self, want: Want, alts: &'a [Alt]) -> Result<(), NameError>
         requires { IsWalk self.old }
-        ensures found { Finds (branches (site_view self.old.outer) (alts_view alts.now) want (scope_view self.old.scope)) self.old.uses.items self.new.uses.items result }
+        ensures found { Finds (branches (site_view self.old.outer) (alts_view alts.now) want
+            (scope_view self.old.scope)) self.old.uses.items self.new.uses.items result }
         ensures kept { OnOk result (IsKept self.old self.new) }
     {
         for alt in alts {
@@ -160,7 +172,9 @@ impl<'a> Walk<'a> {
     #[tactic(auto, using(ddl_tree::proofs::Layers::layers, ddl_kinds::proofs::Finding::finding, crate::proofs::Outermost::outermosts, crate::proofs::Left::lefts))]
     fn take_branch(&mut self, want: Want, alt: &'a Alt) -> Result<(), NameError>
         requires { IsWalk self.old }
-        ensures found { Finds (findings (site_view self.old.outer) (alt_view alt.now).body want (after_pattern (alt_view alt.now).pattern (scope_view self.old.scope))) self.old.uses.items self.new.uses.items result }
+        ensures found { Finds (findings (site_view self.old.outer) (alt_view alt.now).body want
+            (after_pattern (alt_view alt.now).pattern (scope_view self.old.scope))) self.old.uses.items
+            self.new.uses.items result }
         ensures kept { OnOk result (IsKept self.old self.new) }
     {
         let len = self.scope.len();

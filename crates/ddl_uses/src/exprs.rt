@@ -22,7 +22,8 @@ impl<'a> Walk<'a> {
     #[tactic(auto, using(ddl_tree::proofs::Layers::layers, ddl_kinds::proofs::Finding::finding))]
     pub fn take_expr(&mut self, want: Want, expr: &'a Expr) -> Result<(), NameError>
         requires { IsWalk self.old }
-        ensures found { Finds (findings (site_view self.old.outer) (view expr.now) want (scope_view self.old.scope)) self.old.uses.items self.new.uses.items result }
+        ensures found { Finds (findings (site_view self.old.outer) (view expr.now) want (scope_view self.old.scope))
+            self.old.uses.items self.new.uses.items result }
         ensures kept { OnOk result (IsKept self.old self.new) }
     {
         let span = expr.span();
@@ -138,7 +139,8 @@ impl<'a> Walk<'a> {
         part: &'a Expr,
     ) -> Result<(), NameError>
         requires { IsWalk self.old }
-        ensures found { Finds (fits want form span ++ findings (site_view self.old.outer) (view part.now) inner (scope_view self.old.scope)) self.old.uses.items self.new.uses.items result }
+        ensures found { Finds (fits want form span ++ findings (site_view self.old.outer) (view part.now) inner
+            (scope_view self.old.scope)) self.old.uses.items self.new.uses.items result }
         ensures kept { OnOk result (IsKept self.old self.new) }
     {
         fits(&self.uses, want, form, span)?;
@@ -151,7 +153,11 @@ impl<'a> Walk<'a> {
     #[tactic(auto, using(ddl_kinds::proofs::Finding::finding, crate::proofs::Walking::walking))]
     fn take_call(&mut self, want: Want, name: &'a Name, args: &'a [Expr]) -> Result<(), NameError>
         requires { IsWalk self.old }
-        ensures found { Finds (name_use want name.now (count (exprs_view args.now)) (meaning (site_view self.old.outer) (scope_view self.old.scope) name.now) ++ arguments (site_view self.old.outer) (exprs_view args.now) (wants (meaning (site_view self.old.outer) (scope_view self.old.scope) name.now)) (scope_view self.old.scope)) self.old.uses.items self.new.uses.items result }
+        ensures found { Finds (name_use want name.now (count (exprs_view args.now))
+            (meaning (site_view self.old.outer) (scope_view self.old.scope) name.now)
+            ++ arguments (site_view self.old.outer) (exprs_view args.now)
+            (wants (meaning (site_view self.old.outer) (scope_view self.old.scope) name.now))
+            (scope_view self.old.scope)) self.old.uses.items self.new.uses.items result }
         ensures kept { OnOk result (IsKept self.old self.new) }
     {
         let meaning = self.meaning(name);
@@ -172,7 +178,9 @@ impl<'a> Walk<'a> {
         target: &TypeExpr,
     ) -> Result<(), NameError>
         requires { IsWalk self.old }
-        ensures found { Finds (fits want form span ++ findings (site_view self.old.outer) (view part.now) Want.Value (scope_view self.old.scope) ++ type_findings (site_view self.old.outer) (type_view target.now) (scope_view self.old.scope)) self.old.uses.items self.new.uses.items result }
+        ensures found { Finds (fits want form span ++ findings (site_view self.old.outer) (view part.now) Want.Value
+            (scope_view self.old.scope) ++ type_findings (site_view self.old.outer) (type_view target.now)
+            (scope_view self.old.scope)) self.old.uses.items self.new.uses.items result }
         ensures kept { OnOk result (IsKept self.old self.new) }
     {
         fits(&self.uses, want, form, span)?;
@@ -185,7 +193,9 @@ impl<'a> Walk<'a> {
     #[tactic(auto, using(ddl_kinds::proofs::Finding::finding))]
     fn take_typed_value(&mut self, part: &'a Expr, target: &TypeExpr) -> Result<(), NameError>
         requires { IsWalk self.old }
-        ensures found { Finds (findings (site_view self.old.outer) (view part.now) Want.Value (scope_view self.old.scope) ++ type_findings (site_view self.old.outer) (type_view target.now) (scope_view self.old.scope)) self.old.uses.items self.new.uses.items result }
+        ensures found { Finds (findings (site_view self.old.outer) (view part.now) Want.Value
+            (scope_view self.old.scope) ++ type_findings (site_view self.old.outer) (type_view target.now)
+            (scope_view self.old.scope)) self.old.uses.items self.new.uses.items result }
         ensures kept { OnOk result (IsKept self.old self.new) }
     {
         self.take_expr(Want::Value, part)?;
@@ -197,7 +207,9 @@ impl<'a> Walk<'a> {
     #[tactic(auto, using(ddl_kinds::proofs::Finding::finding))]
     fn take_set(&mut self, want: Want, span: Span, class: &Cls) -> Result<(), NameError>
         requires { IsWalk self.old }
-        ensures found { Finds (fits want Form.Class span ++ class_findings (site_view self.old.outer) (class_view class.now) (scope_view self.old.scope)) self.old.uses.items self.new.uses.items result }
+        ensures found { Finds (fits want Form.Class span
+            ++ class_findings (site_view self.old.outer) (class_view class.now) (scope_view self.old.scope))
+            self.old.uses.items self.new.uses.items result }
         ensures kept { OnOk result (IsKept self.old self.new) }
     {
         fits(&self.uses, want, Form::Class, span)?;
@@ -217,7 +229,9 @@ impl<'a> Walk<'a> {
         typed: &Option<TypeExpr>,
     ) -> Result<(), NameError>
         requires { IsWalk self.old }
-        ensures found { Finds (fits want form span ++ findings (site_view self.old.outer) (view inner.now) want (scope_view self.old.scope) ++ typed_findings (site_view self.old.outer) (option_map type_view typed.now) (scope_view self.old.scope)) self.old.uses.items self.new.uses.items result }
+        ensures found { Finds (fits want form span ++ findings (site_view self.old.outer) (view inner.now) want
+            (scope_view self.old.scope) ++ typed_findings (site_view self.old.outer) (option_map type_view typed.now)
+            (scope_view self.old.scope)) self.old.uses.items self.new.uses.items result }
         ensures kept { OnOk result (IsKept self.old self.new) }
     {
         fits(&self.uses, want, form, span)?;
@@ -235,7 +249,9 @@ impl<'a> Walk<'a> {
         typed: &Option<TypeExpr>,
     ) -> Result<(), NameError>
         requires { IsWalk self.old }
-        ensures found { Finds (findings (site_view self.old.outer) (view inner.now) want (scope_view self.old.scope) ++ typed_findings (site_view self.old.outer) (option_map type_view typed.now) (scope_view self.old.scope)) self.old.uses.items self.new.uses.items result }
+        ensures found { Finds (findings (site_view self.old.outer) (view inner.now) want (scope_view self.old.scope)
+            ++ typed_findings (site_view self.old.outer) (option_map type_view typed.now) (scope_view self.old.scope))
+            self.old.uses.items self.new.uses.items result }
         ensures kept { OnOk result (IsKept self.old self.new) }
     {
         self.take_expr(want, inner)?;

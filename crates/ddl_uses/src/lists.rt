@@ -18,7 +18,8 @@ impl<'a> Walk<'a> {
     #[tactic(auto, using(ddl_kinds::proofs::Finding::finding, crate::proofs::Walking::walking))]
     fn take_exprs(&mut self, want: Want, exprs: &'a [Expr]) -> Result<(), NameError>
         requires { IsWalk self.old }
-        ensures found { Finds (each (site_view self.old.outer) (exprs_view exprs.now) want (scope_view self.old.scope)) self.old.uses.items self.new.uses.items result }
+        ensures found { Finds (each (site_view self.old.outer) (exprs_view exprs.now) want (scope_view self.old.scope))
+            self.old.uses.items self.new.uses.items result }
         ensures kept { OnOk result (IsKept self.old self.new) }
     {
         for expr in exprs {
@@ -36,7 +37,8 @@ impl<'a> Walk<'a> {
         args: &'a [Expr],
     ) -> Result<(), NameError>
         requires { IsWalk self.old }
-        ensures found { Finds (arguments (site_view self.old.outer) (exprs_view args.now) (wants_view wants.entry) (scope_view self.old.scope)) self.old.uses.items self.new.uses.items result }
+        ensures found { Finds (arguments (site_view self.old.outer) (exprs_view args.now) (wants_view wants.entry)
+            (scope_view self.old.scope)) self.old.uses.items self.new.uses.items result }
         ensures kept { OnOk result (IsKept self.old self.new) }
     {
         for (place, arg) in args.iter().enumerate() {
@@ -55,7 +57,8 @@ impl<'a> Walk<'a> {
         elements: &'a [Expr],
     ) -> Result<(), NameError>
         requires { IsWalk self.old }
-        ensures found { Finds (fits want Form.Value span ++ each (site_view self.old.outer) (exprs_view elements.now) Want.Value (scope_view self.old.scope)) self.old.uses.items self.new.uses.items result }
+        ensures found { Finds (fits want Form.Value span ++ each (site_view self.old.outer) (exprs_view elements.now)
+            Want.Value (scope_view self.old.scope)) self.old.uses.items self.new.uses.items result }
         ensures kept { OnOk result (IsKept self.old self.new) }
     {
         fits(&self.uses, want, Form::Value, span)?;
@@ -73,7 +76,9 @@ impl<'a> Walk<'a> {
         bound: &'a Bound,
     ) -> Result<(), NameError>
         requires { IsWalk self.old }
-        ensures found { Finds (fits want Form.Grammar span ++ bound_findings (site_view self.old.outer) (bound_view bound.now) (scope_view self.old.scope)) self.old.uses.items self.new.uses.items result }
+        ensures found { Finds (fits want Form.Grammar span
+            ++ bound_findings (site_view self.old.outer) (bound_view bound.now) (scope_view self.old.scope))
+            self.old.uses.items self.new.uses.items result }
         ensures kept { OnOk result (IsKept self.old self.new) }
     {
         fits(&self.uses, want, Form::Grammar, span)?;
@@ -86,7 +91,8 @@ impl<'a> Walk<'a> {
     #[tactic(auto, using(ddl_tree::proofs::Layers::layers, ddl_kinds::proofs::Finding::finding))]
     fn take_bound(&mut self, bound: &'a Bound) -> Result<(), NameError>
         requires { IsWalk self.old }
-        ensures found { Finds (bound_findings (site_view self.old.outer) (bound_view bound.now) (scope_view self.old.scope)) self.old.uses.items self.new.uses.items result }
+        ensures found { Finds (bound_findings (site_view self.old.outer) (bound_view bound.now)
+            (scope_view self.old.scope)) self.old.uses.items self.new.uses.items result }
         ensures kept { OnOk result (IsKept self.old self.new) }
     {
         match bound {
@@ -117,7 +123,9 @@ impl<'a> Walk<'a> {
         fields: &'a [Binding],
     ) -> Result<(), NameError>
         requires { IsWalk self.old }
-        ensures found { Finds (fits want Form.Value span ++ bindings (site_view self.old.outer) (bindings_view fields.now) Want.Value [] (scope_view self.old.scope)) self.old.uses.items self.new.uses.items result }
+        ensures found { Finds (fits want Form.Value span
+            ++ bindings (site_view self.old.outer) (bindings_view fields.now) Want.Value [] (scope_view self.old.scope))
+            self.old.uses.items self.new.uses.items result }
         ensures kept { OnOk result (IsKept self.old self.new) }
     {
         fits(&self.uses, want, Form::Value, span)?;
@@ -130,7 +138,8 @@ impl<'a> Walk<'a> {
     #[tactic(auto, using(ddl_kinds::proofs::Finding::finding, crate::proofs::Walking::walking))]
     fn take_bindings(&mut self, want: Want, of: &'a [Binding]) -> Result<(), NameError>
         requires { IsWalk self.old }
-        ensures found { Finds (bindings (site_view self.old.outer) (bindings_view of.now) want [] (scope_view self.old.scope)) self.old.uses.items self.new.uses.items result }
+        ensures found { Finds (bindings (site_view self.old.outer) (bindings_view of.now) want []
+            (scope_view self.old.scope)) self.old.uses.items self.new.uses.items result }
         ensures kept { OnOk result (IsKept self.old self.new) }
     {
         let mut seen = Seen::new(self.alloc);
@@ -153,7 +162,9 @@ impl<'a> Walk<'a> {
     ) -> Result<(), NameError>
         requires walk { IsWalk self.old }
         requires seen { IsSeen seen.old }
-        ensures found { Finds (again (seen_view seen.old) name.now ++ findings (site_view self.old.outer) (view value.now) want (scope_view self.old.scope)) self.old.uses.items self.new.uses.items result }
+        ensures found { Finds (again (seen_view seen.old) name.now
+            ++ findings (site_view self.old.outer) (view value.now) want (scope_view self.old.scope))
+            self.old.uses.items self.new.uses.items result }
         ensures kept { OnOk result (IsKept self.old self.new) }
         ensures seen { OnOk result (seen_view seen.new ≡ seen_view seen.old ++ name.now ∷ []) }
         ensures sound { OnOk result (IsSeen seen.new) }
@@ -173,7 +184,9 @@ impl<'a> Walk<'a> {
         of: &'a Alternatives,
     ) -> Result<(), NameError>
         requires { IsWalk self.old }
-        ensures found { Finds (fits want Form.Grammar span ++ alternatives (site_view self.old.outer) (alternatives_view of.now) (scope_view self.old.scope)) self.old.uses.items self.new.uses.items result }
+        ensures found { Finds (fits want Form.Grammar span
+            ++ alternatives (site_view self.old.outer) (alternatives_view of.now) (scope_view self.old.scope))
+            self.old.uses.items self.new.uses.items result }
         ensures kept { OnOk result (IsKept self.old self.new) }
     {
         fits(&self.uses, want, Form::Grammar, span)?;
@@ -186,7 +199,8 @@ impl<'a> Walk<'a> {
     #[tactic(auto, using(ddl_tree::proofs::Layers::layers, ddl_kinds::proofs::Finding::finding))]
     fn take_alternatives(&mut self, of: &'a Alternatives) -> Result<(), NameError>
         requires { IsWalk self.old }
-        ensures found { Finds (alternatives (site_view self.old.outer) (alternatives_view of.now) (scope_view self.old.scope)) self.old.uses.items self.new.uses.items result }
+        ensures found { Finds (alternatives (site_view self.old.outer) (alternatives_view of.now)
+            (scope_view self.old.scope)) self.old.uses.items self.new.uses.items result }
         ensures kept { OnOk result (IsKept self.old self.new) }
     {
         match of {

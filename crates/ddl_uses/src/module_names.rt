@@ -41,7 +41,8 @@ fn keep<'a>(
     numbered: Numbered<'a>,
 ) -> Result<(), NoMemory>
     requires { at_text by_name.old text.now ≡ None }
-    ensures { OnOk result ((q : List ℕ) → at_text by_name.new q ≡ option_or (at_text by_name.old q) (if bytes_eq text.now q then Some numbered.entry else None)) }
+    ensures { OnOk result ((q : List ℕ) → at_text by_name.new q
+        ≡ option_or (at_text by_name.old q) (if bytes_eq text.now q then Some numbered.entry else None)) }
 {
     by_name.insert(text, numbered)?;
     Ok(())
@@ -54,7 +55,8 @@ fn keep_first<'a>(
     text: &'a [u8],
     numbered: Numbered<'a>,
 ) -> Result<(), NoMemory>
-    ensures { OnOk result ((q : List ℕ) → at_text by_name.new q ≡ option_or (at_text by_name.old q) (if bytes_eq text.now q then Some numbered.entry else None)) }
+    ensures { OnOk result ((q : List ℕ) → at_text by_name.new q
+        ≡ option_or (at_text by_name.old q) (if bytes_eq text.now q then Some numbered.entry else None)) }
 {
     match known(by_name, text) {
         Some(_first) => {}
@@ -70,7 +72,8 @@ fn add<'a>(
     number: u32,
     decl: &'a Decl,
 ) -> Result<(), NoMemory>
-    ensures { OnOk result ((q : List ℕ) → meaning_of_numbered (at_text by_name.new q) ≡ or_else (meaning_of_numbered (at_text by_name.old q)) (meaning_among number (decl_view decl.now ∷ []) q)) }
+    ensures { OnOk result ((q : List ℕ) → meaning_of_numbered (at_text by_name.new q)
+        ≡ or_else (meaning_of_numbered (at_text by_name.old q)) (meaning_among number (decl_view decl.now ∷ []) q)) }
 {
     keep_first(by_name, name_of(decl).text.get(), Numbered { number, decl })?;
     Ok(())
@@ -105,7 +108,8 @@ impl<'a> ModuleNames<'a> {
     /// Those of declarations of which the first has this number.
     #[tactic(auto, using(crate::proofs::Naming::naming))]
     pub(crate) fn of(alloc: Global, first: usize, decls: &'a [Decl]) -> Result<Self, NoMemory>
-        ensures { IfOk result (λ names. (text : List ℕ) → meaning_in (Some names) text ≡ meaning_among first (map decl_view decls.now) text) }
+        ensures { IfOk result (λ names. (text : List ℕ)
+            → meaning_in (Some names) text ≡ meaning_among first (map decl_view decls.now) text) }
     {
         let mut by_name = HashMap::new(alloc);
         for (place, decl) in decls.iter().enumerate() {

@@ -1,5 +1,6 @@
 ghost use Rattle.std.specs.Prelude.{◌≡◌, Some, filter, find};
-ghost use Rattle.ddl_uses.specs.Bindings.{declared, imported, imported_by, imports_of, is_bound, is_declared, meaning, meaning_of_builtin, meaning_of_local, outer_meaning};
+ghost use Rattle.ddl_uses.specs.Bindings.{declared, imported, imported_by, imports_of, is_bound, is_declared, meaning};
+ghost use Rattle.ddl_uses.specs.Bindings.{meaning_of_builtin, meaning_of_local, outer_meaning};
 ghost use Rattle.ddl_kinds.specs.BuiltIns.{builtin_named};
 ghost use Rattle.ddl_uses.specs.Held.{IsScope, local_view, scope_view};
 ghost use Rattle.ddl_uses.specs.Walks.{IsOuter, is_other, site_view};
@@ -115,7 +116,8 @@ impl<'a> Outer<'a> {
     #[tactic(auto, using(crate::proofs::Outside::outside))]
     fn imported_by(&self, imports: &[u32], text: &[u8]) -> Meaning<'a>
         requires { IsOuter self.now }
-        ensures { meaning_view result ≡ imported_by (site_view self.now).units text.now (filter (is_declared (site_view self.now).units text.now) imports.now) }
+        ensures { meaning_view result ≡ imported_by (site_view self.now).units text.now
+            (filter (is_declared (site_view self.now).units text.now) imports.now) }
     {
         match self.first_import(imports, text) {
             Some(first) => match self.other_import(imports, text, first) {

@@ -19,7 +19,8 @@ pub fn take_type<'a>(
 ) -> Result<(), NameError>
     requires names { IsOuter outer.now }
     requires scope { IsScope scope.now }
-    ensures { Finds (type_findings (site_view outer.now) (type_view of.now) (scope_view scope.now)) uses.old.items uses.new.items result }
+    ensures { Finds (type_findings (site_view outer.now) (type_view of.now) (scope_view scope.now)) uses.old.items
+        uses.new.items result }
 {
     match of {
         TypeExpr::Maybe { content: inner, .. }
@@ -58,7 +59,8 @@ pub fn take_typed<'a>(
 ) -> Result<(), NameError>
     requires names { IsOuter outer.now }
     requires scope { IsScope scope.now }
-    ensures { Finds (typed_findings (site_view outer.now) (typed_view typed.now) (scope_view scope.now)) uses.old.items uses.new.items result }
+    ensures { Finds (typed_findings (site_view outer.now) (typed_view typed.now) (scope_view scope.now)) uses.old.items
+        uses.new.items result }
 {
     if let Some(of) = typed {
         take_type(outer, scope, uses, of)?;
@@ -76,7 +78,8 @@ pub fn take_class<'a>(
 ) -> Result<(), NameError>
     requires names { IsOuter outer.now }
     requires scope { IsScope scope.now }
-    ensures { Finds (class_findings (site_view outer.now) (class_view class.now) (scope_view scope.now)) uses.old.items uses.new.items result }
+    ensures { Finds (class_findings (site_view outer.now) (class_view class.now) (scope_view scope.now)) uses.old.items
+        uses.new.items result }
 {
     match class {
         Cls::Union { left, right, .. } => {

@@ -21,7 +21,8 @@ fn keep<'a>(
     span: Span,
 ) -> Result<(), NoMemory>
     requires { at_text places.old text.now ≡ None }
-    ensures { OnOk result ((q : List ℕ) → at_text places.new q ≡ option_or (at_text places.old q) (if bytes_eq text.now q then Some span else None)) }
+    ensures { OnOk result ((q : List ℕ) → at_text places.new q
+        ≡ option_or (at_text places.old q) (if bytes_eq text.now q then Some span else None)) }
 {
     places.insert(text, span)?;
     Ok(())
@@ -35,7 +36,8 @@ pub fn before<'a>(
     span: Span,
 ) -> Result<Option<Span>, NoMemory>
     ensures before { IfOk result (λ o. o ≡ at_text places.old text.now) }
-    ensures kept { IfOk result (λ o. o ≡ None → (q : List ℕ) → at_text places.new q ≡ option_or (at_text places.old q) (if bytes_eq text.now q then Some span else None)) }
+    ensures kept { IfOk result (λ o. o ≡ None → (q : List ℕ)
+        → at_text places.new q ≡ option_or (at_text places.old q) (if bytes_eq text.now q then Some span else None)) }
 {
     if let Some(first) = place(places, text) {
         return Ok(Some(first));

@@ -1,4 +1,5 @@
-ghost use Rattle.std.specs.Prelude.{◌≡◌, IfOk, List, None, OnOk, Option, Some, [], ◌∷◌, bytes_eq, drop, if◌then◌else◌, length, option_map, ℕ};
+ghost use Rattle.std.specs.Prelude.{◌≡◌, IfOk, List, None, OnOk, Option, Some, [], ◌∷◌, bytes_eq, drop, if◌then◌else◌};
+ghost use Rattle.std.specs.Prelude.{length, option_map, ℕ};
 ghost use Rattle.ddl_uses.specs.Held.{IsScope, at_text, local_view, scope_view};
 ghost use Rattle.ddl_uses.specs.Scope.{in_scope, outermost};
 
@@ -39,7 +40,8 @@ fn put<'a>(
     number: usize,
 ) -> Result<Option<usize>, NoMemory>
     ensures old { IfOk result (λ o. o ≡ at_text latest.old text.now) }
-    ensures new { OnOk result ((q : List ℕ) → at_text latest.new q ≡ (if bytes_eq text.now q then Some number else at_text latest.old q)) }
+    ensures new { OnOk result ((q : List ℕ) → at_text latest.new q
+        ≡ (if bytes_eq text.now q then Some number else at_text latest.old q)) }
 {
     let old = latest.insert(text, number)?;
     Ok(old)
@@ -60,7 +62,8 @@ fn put_back<'a>(
     text: &'a [u8],
     number: Option<usize>,
 ) -> Result<(), NoMemory>
-    ensures { OnOk result ((q : List ℕ) → at_text latest.new q ≡ (if bytes_eq text.now q then number else at_text latest.old q)) }
+    ensures { OnOk result ((q : List ℕ) → at_text latest.new q
+        ≡ (if bytes_eq text.now q then number else at_text latest.old q)) }
 {
     match number {
         Some(number) => {
@@ -88,7 +91,8 @@ impl<'a> Scope<'a> {
     #[tactic(auto, using(crate::proofs::Scoped::scoped))]
     pub fn bind(&mut self, name: &'a Name, kind: Kind) -> Result<(), NoMemory>
         requires { IsScope self.old }
-        ensures bound { OnOk result (scope_view self.new ≡ record { name = name.now; kind = kind } ∷ scope_view self.old) }
+        ensures bound { OnOk result (scope_view self.new ≡ record { name = name.now; kind = kind }
+            ∷ scope_view self.old) }
         ensures sound { OnOk result (IsScope self.new) }
     {
         let hides = put(&mut self.latest, name.text.get(), self.locals.len())?;

@@ -41,8 +41,10 @@ impl<'a> Seen<'a> {
     #[tactic(auto, using(crate::proofs::Placed::placed))]
     pub(crate) fn once(&mut self, uses: &[Use], text: &'a [u8], span: Span) -> Result<(), NameError>
         requires { IsSeen self.old }
-        ensures found { Finds (again (seen_view self.old) (record { text = text.now; span = span })) uses.now uses.now result }
-        ensures seen { OnOk result (seen_view self.new ≡ seen_view self.old ++ record { text = text.now; span = span } ∷ []) }
+        ensures found { Finds (again (seen_view self.old) (record { text = text.now; span = span })) uses.now uses.now
+            result }
+        ensures seen { OnOk result (seen_view self.new ≡ seen_view self.old ++ record { text = text.now; span = span }
+            ∷ []) }
         ensures sound { OnOk result (IsSeen self.new) }
     {
         if let Some(first) = before(&mut self.places, text, span)? {

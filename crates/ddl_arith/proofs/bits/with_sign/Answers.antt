@@ -13,7 +13,8 @@ not_negative : (bits half : ℕ) (other : ℤ) → bits < half → bits < 2 ^ 12
 not_negative bits half other below fits =
     to_z_pos w128 bits fits ∙ sym (ap (λ t. if t then pos bits else other) (lt-ltb bits half below))
 
-negative : (bits half missing : ℕ) (n : ℤ) → half ≤ bits → missing < 2 ^ 127 → n ≡ cast_signed w128 missing → cast_signed w128 (cast_unsigned w128 (negsuc 0 -ℤ n)) ≡ (if ltb bits half then pos bits else negsuc missing)
+negative : (bits half missing : ℕ) (n : ℤ) → half ≤ bits → missing < 2 ^ 127 → n ≡ cast_signed w128 missing
+    → cast_signed w128 (cast_unsigned w128 (negsuc 0 -ℤ n)) ≡ (if ltb bits half then pos bits else negsuc missing)
 negative bits half missing n above fits is =
     ap (λ m. cast_signed w128 (cast_unsigned w128 (negsuc 0 -ℤ m))) (is ∙ to_z_pos w128 missing fits)
     ∙ ap (λ m. cast_signed w128 (cast_unsigned w128 m)) (minus_one_less missing)

@@ -16,20 +16,27 @@ returns-in-Add c =
 pub returns-in-Sub : goal.returns-in-Sub
 returns-in-Sub c =
     rw c.in-Sub.is
-    (settled_sint c.args.width c.checked_sub.result _ c.settle-in-Sub.result c.requires.at_most_128 c.checked_sub.ensures c.settle-in-Sub.ensures.over c.settle-in-Sub.ensures.exact
+    (settled_sint c.args.width c.checked_sub.result _ c.settle-in-Sub.result c.requires.at_most_128 c.checked_sub.ensures c.settle-in-Sub.ensures.over
+    c.settle-in-Sub.ensures.exact
     ∙ as_given (λ x y. settled (Ty.Sint c.args.width) (x -ℤ y)) c.args.left c.args.right c.ranges.left c.ranges.right)
 
 pub returns-in-Mul : goal.returns-in-Mul
 returns-in-Mul c =
     rw c.in-Mul.is
-    (settled_sint c.args.width c.checked_mul.result _ c.settle-in-Mul.result c.requires.at_most_128 c.checked_mul.ensures c.settle-in-Mul.ensures.over c.settle-in-Mul.ensures.exact
+    (settled_sint c.args.width c.checked_mul.result _ c.settle-in-Mul.result c.requires.at_most_128 c.checked_mul.ensures c.settle-in-Mul.ensures.over
+    c.settle-in-Mul.ensures.exact
     ∙ as_given (λ x y. settled (Ty.Sint c.args.width) (x *ℤ y)) c.args.left c.args.right c.ranges.left c.ranges.right)
 
 pub returns-else-right-eq0 : goal.returns-else-right-eq0
 returns-else-right-eq0 c =
-    let exact = given_first _ _ c.checked_div.result _ (omega (arith, ap (cast_unsigned w128) (to_z-of_z w128 c.args.right c.ranges.right), c.if-right-eq0.false)) c.checked_div.ensures in
+    let exact = given_first _ _ c.checked_div.result _ (omega (
+      arith,
+      ap (cast_unsigned w128) (to_z-of_z w128 c.args.right c.ranges.right),
+      c.if-right-eq0.false,
+    )) c.checked_div.ensures in
     rw c.in-Div.is
-    (settled_sint c.args.width c.checked_div.result _ c.settle-else-right-eq0.result c.requires.at_most_128 exact c.settle-else-right-eq0.ensures.over c.settle-else-right-eq0.ensures.exact
+    (settled_sint c.args.width c.checked_div.result _ c.settle-else-right-eq0.result c.requires.at_most_128 exact c.settle-else-right-eq0.ensures.over
+    c.settle-else-right-eq0.ensures.exact
     ∙ as_given (λ x y. settled (Ty.Sint c.args.width) (int_div x y)) c.args.left c.args.right c.ranges.left c.ranges.right
     ∙ sym (by_other_than_zero (Ty.Sint c.args.width) c.args.right (int_div c.args.left c.args.right) c.if-right-eq0.false))
 

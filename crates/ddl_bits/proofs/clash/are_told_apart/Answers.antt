@@ -8,5 +8,6 @@ pub returns-then-are_different : goal.returns-then-are_different
 returns-then-are_different c =
     λ _ n.
     told_apart (parts_view c.args.a.now) (parts_view c.args.b.now) c.loop-place.place
-    (sym (c.if-are_different.ensures ∙ ap (λ o. differ o c.given_bit-in-loop-place.result) c.given_bit.ensures ∙ ap (λ o. differ (parts_bit (parts_view c.args.a.now) c.loop-place.place) o) c.given_bit-in-loop-place.ensures))
+    (sym (c.if-are_different.ensures ∙ ap (λ o. differ o c.given_bit-in-loop-place.result) c.given_bit.ensures
+    ∙ ap (λ o. differ (parts_bit (parts_view c.args.a.now) c.loop-place.place) o) c.given_bit-in-loop-place.ensures))
     n

@@ -15,8 +15,10 @@ search_range-requires-clause-aligned c = (0, omega arith)
 
 pub returns-in-Number : goal.returns-in-Number
 returns-in-Number c =
-    whole_search (parts_view c.args.a.now) (parts_view c.args.b.now) c.args.width (0 + 2 ^ c.args.width) (Some c.in-Number.number) (omega arith) c.requires.a_width (parts_sized (parts_view c.args.a.now) c.requires.a_accepted) c.in-Number.ensures
+    whole_search (parts_view c.args.a.now) (parts_view c.args.b.now) c.args.width (0 + 2 ^ c.args.width) (Some c.in-Number.number) (omega arith)
+    c.requires.a_width (parts_sized (parts_view c.args.a.now) c.requires.a_accepted) c.in-Number.ensures
 
 pub returns-in-NoneHere : goal.returns-in-NoneHere
 returns-in-NoneHere c =
-    whole_search (parts_view c.args.a.now) (parts_view c.args.b.now) c.args.width (0 + 2 ^ c.args.width) None (omega arith) c.requires.a_width (parts_sized (parts_view c.args.a.now) c.requires.a_accepted) c.in-NoneHere.ensures
+    whole_search (parts_view c.args.a.now) (parts_view c.args.b.now) c.args.width (0 + 2 ^ c.args.width) None (omega arith) c.requires.a_width
+    (parts_sized (parts_view c.args.a.now) c.requires.a_accepted) c.in-NoneHere.ensures

@@ -18,5 +18,6 @@ invariant-parts_count-loop-part l =
       accepted : PartsAccepted (parts_view (drop l.part-index l.parts));
       few : parts_width (parts_view (drop l.part-index l.parts)) ≤ l.width;
       room : l.count * 2 ^ parts_width (parts_view (drop l.part-index l.parts)) ≤ 2 ^ l.width;
-      same : l.count * tally (parts_fit (parts_view (drop l.part-index l.parts))) (2 ^ parts_width (parts_view (drop l.part-index l.parts))) ≡ tally (parts_fit (parts_view l.parts)) (2 ^ l.width);
+      same : l.count * tally (parts_fit (parts_view (drop l.part-index l.parts))) (2 ^ parts_width (parts_view (drop l.part-index l.parts)))
+          ≡ tally (parts_fit (parts_view l.parts)) (2 ^ l.width);
     }

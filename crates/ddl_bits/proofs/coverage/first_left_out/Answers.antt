@@ -10,7 +10,13 @@ use Rattle.ddl_bits.proofs.coverage.first_left_out.Goals as goal
 
 pub overflow_add-next : goal.overflow_add-next
 overflow_add-next c =
-    omega (arith, one_shl (c.loop-bits.bits - 1) 128 (omega (arith, c.loop-bits.invariant.fewer, c.requires.accepted.0)), pow_half c.loop-bits.bits (λ e. omega arith), c.loop-bits.invariant.within, pow_mono {i = c.args.width} {j = 128} c.requires.accepted.0)
+    omega (
+      arith,
+      one_shl (c.loop-bits.bits - 1) 128 (omega (arith, c.loop-bits.invariant.fewer, c.requires.accepted.0)),
+      pow_half c.loop-bits.bits (λ e. omega arith),
+      c.loop-bits.invariant.within,
+      pow_mono {i = c.args.width} {j = 128} c.requires.accepted.0,
+    )
 
 pub returns-clause-before : goal.returns-clause-before
 returns-clause-before c = tally_all (cons_fit (layout_view c.args.layout.now)) c.loop-bits.number c.loop-bits.invariant.full

@@ -11,9 +11,12 @@ use Rattle.ddl_bits.proofs.fitting.+fits.Goals as goal
 
 pub layout_fits-parts_fit-requires : goal.layout_fits-parts_fit-requires
 layout_fits-parts_fit-requires t c =
-    let step = con_step_at c.deref-con-items.result.now c.loop-con.con-index c.con-item.result c.args.width c.loop-con-test.true c.con-item.is c.loop-con.invariant.sized in
-    let seen = con_view_out c.con-item.result ∙ ap parts_view (sym c.deref.ensures.value) in
-    (first_of (search (tests, rules, the_lemmas, get_or_read), grind (the_lemmas, arith, common_steps)), (subst PartsSized seen step.1, (sym (ap parts_width seen) ∙ step.0, c.requires.at_most_128)))
+    let step = con_step_at c.deref-con-items.result.now c.loop-con.con-index c.con-item.result c.args.width c.loop-con-test.true c.con-item.is
+    c.loop-con.invariant.sized in
+    let seen = con_view_out c.con-item.result ∙ ap parts_view (sym c.deref.ensures.value) in (
+      first_of (search (tests, rules, the_lemmas, get_or_read), grind (the_lemmas, arith, common_steps)),
+      (subst PartsSized seen step.1, (sym (ap parts_width seen) ∙ step.0, c.requires.at_most_128)),
+    )
 
 pub layout_fits-returns-then-parts_fit : goal.layout_fits-returns-then-parts_fit
 layout_fits-returns-then-parts_fit t c =
@@ -26,7 +29,8 @@ layout_fits-returns-then-parts_fit t c =
 
 pub layout_fits-loop-con-preserved : goal.layout_fits-loop-con-preserved
 layout_fits-loop-con-preserved t c =
-    let step = con_step_at c.deref-con-items.result.now c.loop-con.con-index c.con-item.result c.args.width c.loop-con-test.true c.con-item.is c.loop-con.invariant.sized in
+    let step = con_step_at c.deref-con-items.result.now c.loop-con.con-index c.con-item.result c.args.width c.loop-con-test.true c.con-item.is
+    c.loop-con.invariant.sized in
     let seen = con_view_out c.con-item.result ∙ ap parts_view (sym c.deref.ensures.value) in
     let first : false ≡ parts_fit (con_view c.con-item.result) c.args.number = c.if-parts_fit.ensures ∙ sym (ap (λ ps. parts_fit ps c.args.number) seen) in
     let rest = cons_view (drop (c.loop-con.con-index + 1) c.deref-con-items.result.now) in
@@ -34,26 +38,31 @@ layout_fits-loop-con-preserved t c =
       sized = step.2;
       same =
           ap (λ b. b || cons_fit rest c.args.number) first
-          ∙ sym (ap (λ cs. cons_fit cs c.args.number) (at_con c.deref-con-items.result.now c.loop-con.con-index c.con-item.result c.loop-con-test.true c.con-item.is))
+          ∙ sym (ap (λ cs. cons_fit cs c.args.number) (at_con c.deref-con-items.result.now c.loop-con.con-index c.con-item.result c.loop-con-test.true
+          c.con-item.is))
           ∙ c.loop-con.invariant.same;
     }
 
 pub parts_fit-overflow_shr-low : goal.parts_fit-overflow_shr-low
 parts_fit-overflow_shr-low t c =
-    (part_step_at c.args.parts.now c.loop-part.part-index c.part-item.result c.part_bits-left.result c.loop-part.left c.loop-part-test.true c.part-item.is c.loop-part.invariant.sized c.loop-part.invariant.bits c.loop-part.invariant.few c.part_bits-left.ensures).below
+    (part_step_at c.args.parts.now c.loop-part.part-index c.part-item.result c.part_bits-left.result c.loop-part.left c.loop-part-test.true c.part-item.is
+    c.loop-part.invariant.sized c.loop-part.invariant.bits c.loop-part.invariant.few c.part_bits-left.ensures).below
 
 pub parts_fit-overflow_shl-low : goal.parts_fit-overflow_shl-low
 parts_fit-overflow_shl-low t c =
-    (part_step_at c.args.parts.now c.loop-part.part-index c.part-item.result c.part_bits-left.result c.loop-part.left c.loop-part-test.true c.part-item.is c.loop-part.invariant.sized c.loop-part.invariant.bits c.loop-part.invariant.few c.part_bits-left.ensures).below
+    (part_step_at c.args.parts.now c.loop-part.part-index c.part-item.result c.part_bits-left.result c.loop-part.left c.loop-part-test.true c.part-item.is
+    c.loop-part.invariant.sized c.loop-part.invariant.bits c.loop-part.invariant.few c.part_bits-left.ensures).below
 
 pub parts_fit-overflow_sub-low : goal.parts_fit-overflow_sub-low
 parts_fit-overflow_sub-low t c =
-    let step = part_step_at c.args.parts.now c.loop-part.part-index c.part-item.result c.part_bits-left.result c.loop-part.left c.loop-part-test.true c.part-item.is c.loop-part.invariant.sized c.loop-part.invariant.bits c.loop-part.invariant.few c.part_bits-left.ensures in
+    let step = part_step_at c.args.parts.now c.loop-part.part-index c.part-item.result c.part_bits-left.result c.loop-part.left c.loop-part-test.true
+    c.part-item.is c.loop-part.invariant.sized c.loop-part.invariant.bits c.loop-part.invariant.few c.part_bits-left.ensures in
     omega (arith, one_shl (c.loop-part.left - c.part_bits-left.result) 128 step.below, pow_pos (c.loop-part.left - c.part_bits-left.result))
 
 pub parts_fit-loop-part-preserved : goal.parts_fit-loop-part-preserved
 parts_fit-loop-part-preserved t c =
-    let step = part_step_at c.args.parts.now c.loop-part.part-index c.part-item.result c.part_bits-left.result c.loop-part.left c.loop-part-test.true c.part-item.is c.loop-part.invariant.sized c.loop-part.invariant.bits c.loop-part.invariant.few c.part_bits-left.ensures in
+    let step = part_step_at c.args.parts.now c.loop-part.part-index c.part-item.result c.part_bits-left.result c.loop-part.left c.loop-part-test.true
+    c.part-item.is c.loop-part.invariant.sized c.loop-part.invariant.bits c.loop-part.invariant.few c.part_bits-left.ensures in
     let left = c.loop-part.left - c.part_bits-left.result in
     let rest = parts_view (drop (c.loop-part.part-index + 1) c.args.parts.now) in
     record {
@@ -64,6 +73,7 @@ parts_fit-loop-part-preserved t c =
           ap (parts_fit rest) (by_mask c.loop-part.low left step.below)
           ∙ ap (λ b. b && parts_fit rest (c.loop-part.low % 2 ^ left)) c.if-not-part_fits.ensures
           ∙ ap (λ w. part_fits (part_view c.part-item.result) (c.loop-part.low / 2 ^ w) && parts_fit rest (c.loop-part.low % 2 ^ w)) (sym step.after)
-          ∙ sym (ap (λ ps. parts_fit ps c.loop-part.low) (at_part c.args.parts.now c.loop-part.part-index c.part-item.result c.loop-part-test.true c.part-item.is))
+          ∙ sym (ap (λ ps. parts_fit ps c.loop-part.low) (at_part c.args.parts.now c.loop-part.part-index c.part-item.result c.loop-part-test.true
+          c.part-item.is))
           ∙ c.loop-part.invariant.same;
     }

@@ -11,6 +11,9 @@ loop-place-preserved c =
     let place = c.args.low + below in
     let At : ℕ → Type 0 = λ k. RunsWhole (parts_view c.args.other.now) c.loop-place.marks k n in
     let next : c.args.low + c.loop-place.place ≡ place + 1 = omega arith in
-    c.whole_step.ensures n
-    (λ b given. has.bits below b (omega arith) (sym c.part_bit_at.ensures ∙ given), λ b given. shared_told c.args.range.from c.args.range.bits place n b inside (sym c.shared_bit.ensures ∙ given))
+    c.whole_step.ensures n (
+      λ b given. has.bits below b (omega arith) (sym c.part_bit_at.ensures ∙ given),
+      λ b given.
+          shared_told c.args.range.from c.args.range.bits place n b inside (sym c.shared_bit.ensures ∙ given),
+    )
     (subst At next (c.loop-place.invariant n inside has runs))

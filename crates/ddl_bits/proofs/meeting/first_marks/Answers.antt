@@ -15,6 +15,11 @@ returns-clause-start c =
     let At : ℕ → Type 0 = λ k. RunsWhole parts c.whole_step.new.marks k n in
     let With : List Bool → Type 0 = λ m. RunsWhole parts m (parts_width parts) n in
     let width : place ≡ parts_width parts = omega (arith, c.parts_bits.ensures) in
-    let before : RunsWhole parts c.deref_mut.result.now (place + 1) n = (parts_start parts c.requires.sized 0 (take (parts_leaves parts) c.deref_mut.result.now) (place + 1) n (omega (arith, width)) reads, λ last. absurd (omega arith)) in
+    let before : RunsWhole parts c.deref_mut.result.now (place + 1) n = (
+      parts_start parts c.requires.sized 0 (take (parts_leaves parts) c.deref_mut.result.now) (place + 1) n (omega (arith, width)) reads,
+      λ last.
+          absurd (omega arith),
+    ) in
     let after = subst At width (c.whole_step.ensures n (λ b given. absurd cc, λ b given. absurd cc) before) in
-    subst With (sym (written_back c.in_ok-marks.marks.len c.whole_step.new.marks c.in_ok-marks.marks.items (sym (c.whole_step.auto.marks ∙ c.deref_mut.ensures.len)))) after
+    subst With (sym (written_back c.in_ok-marks.marks.len c.whole_step.new.marks c.in_ok-marks.marks.items
+    (sym (c.whole_step.auto.marks ∙ c.deref_mut.ensures.len)))) after

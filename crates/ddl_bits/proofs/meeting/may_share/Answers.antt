@@ -11,4 +11,6 @@ returns-in-Ok c =
     let a = parts_view c.args.a.now in
     let b = parts_view c.args.b.now in
     false_unless (parts_both a b n) (λ both.
-    c.in-Ok.ensures none n (in_range c.args.from c.args.bits c.requires.aligned.0 n c.requires.aligned.1 above below) (fitting_read a n c.requires.a_sized (first_true (parts_fit a n) (parts_fit b n) both)) (fitting_read b n c.requires.b_sized (second_true (parts_fit a n) (parts_fit b n) both)))
+    c.in-Ok.ensures none n (in_range c.args.from c.args.bits c.requires.aligned.0 n c.requires.aligned.1 above below)
+    (fitting_read a n c.requires.a_sized (first_true (parts_fit a n) (parts_fit b n) both))
+    (fitting_read b n c.requires.b_sized (second_true (parts_fit a n) (parts_fit b n) both)))

@@ -15,10 +15,14 @@ pub returns-in-Some-first_of_another_width : goal.returns-in-Some-first_of_anoth
 returns-in-Some-first_of_another_width c =
     let seen = layout_view_out c.args.layout.now ∙ ap cons_view (sym c.deref.ensures.value) in
     let seen_again = layout_view_out c.args.layout.now ∙ ap cons_view (sym c.deref-in-None.ensures.value) in
-    one_width_found (layout_view c.args.layout.now) c.layout_bits-width.result _ (ap (too_wide_from 0) seen ∙ sym c.in-None.ensures) c.layout_bits-width.ensures (c.in-Some-first_of_another_width.ensures ∙ sym (ap (other_width_from c.layout_bits-width.result 0) seen_again))
+    one_width_found (layout_view c.args.layout.now) c.layout_bits-width.result _ (ap (too_wide_from 0) seen
+    ∙ sym c.in-None.ensures) c.layout_bits-width.ensures (c.in-Some-first_of_another_width.ensures
+    ∙ sym (ap (other_width_from c.layout_bits-width.result 0) seen_again))
 
 pub returns-in-None-first_of_another_width : goal.returns-in-None-first_of_another_width
 returns-in-None-first_of_another_width c =
     let seen = layout_view_out c.args.layout.now ∙ ap cons_view (sym c.deref.ensures.value) in
     let seen_again = layout_view_out c.args.layout.now ∙ ap cons_view (sym c.deref-in-None.ensures.value) in
-    one_width_found (layout_view c.args.layout.now) c.layout_bits-width.result _ (ap (too_wide_from 0) seen ∙ sym c.in-None.ensures) c.layout_bits-width.ensures (c.in-None-first_of_another_width.ensures ∙ sym (ap (other_width_from c.layout_bits-width.result 0) seen_again))
+    one_width_found (layout_view c.args.layout.now) c.layout_bits-width.result _ (ap (too_wide_from 0) seen
+    ∙ sym c.in-None.ensures) c.layout_bits-width.ensures (c.in-None-first_of_another_width.ensures
+    ∙ sym (ap (other_width_from c.layout_bits-width.result 0) seen_again))

@@ -30,8 +30,10 @@ returns-in-Some c =
       refl,
       record {
         order = omega arith;
-        number = least_same (fits_both (cons_view cons) c.args.first second) (parts_both (con_view c.index-cons-first.result) (con_view c.index-cons-second.result)) c.in-Some.number
-            (λ n. both_are cons c.args.first second c.index-cons-first.result c.index-cons-second.result n c.requires.inside c.index-cons-first.is inside c.index-cons-second.is)
+        number = least_same (fits_both (cons_view cons) c.args.first second)
+            (parts_both (con_view c.index-cons-first.result) (con_view c.index-cons-second.result)) c.in-Some.number
+            (λ n. both_are cons c.args.first second c.index-cons-first.result c.index-cons-second.result n c.requires.inside c.index-cons-first.is inside
+            c.index-cons-second.is)
             c.in-Some.ensures;
         none_before = c.loop-second.invariant;
       },
@@ -48,7 +50,8 @@ loop-second-preserved c =
       | inr here ↦
           let e : j ≡ second = omega arith in
           ap (λ q. fits_both (cons_view cons) c.args.first q m) e
-          ∙ both_are cons c.args.first second c.index-cons-first.result c.index-cons-second.result m c.requires.inside c.index-cons-first.is inside c.index-cons-second.is
+          ∙ both_are cons c.args.first second c.index-cons-first.result c.index-cons-second.result m c.requires.inside c.index-cons-first.is inside
+          c.index-cons-second.is
           ∙ c.in_default.ensures m
     ]
 
@@ -57,5 +60,6 @@ returns c =
     λ j m above.
     elim (cases_lt j (length c.args.cons.now)) [
       | inl inside ↦ c.loop-second.invariant j m above (omega arith)
-      | inr outside ↦ second_false (fits_at (cons_view c.args.cons.now) c.args.first m) (fits_at (cons_view c.args.cons.now) j m) (fits_at_over c.args.cons.now j m outside)
+      | inr outside ↦ second_false (fits_at (cons_view c.args.cons.now) c.args.first m) (fits_at (cons_view c.args.cons.now) j m)
+          (fits_at_over c.args.cons.now j m outside)
     ]

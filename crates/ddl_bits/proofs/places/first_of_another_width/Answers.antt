@@ -11,8 +11,10 @@ returns-then-parts_bits-width c =
     let con = c.index-cons-place.result in
     let place = c.loop-place.place in
     let rest = cons_view (drop (place + 1) c.args.cons.now) in
-    let width : parts_width (con_view con) ≡ parts_width (parts_view c.deref.result.now) = ap parts_width (con_view_out con ∙ ap parts_view (sym c.deref.ensures.value)) in
-    let other : eqb (parts_width (con_view con)) c.args.width ≡ false = ne_eqb (parts_width (con_view con)) c.args.width (λ e. c.if-parts_bits-width.true (omega (arith, c.parts_bits.ensures, width, e))) in
+    let width : parts_width (con_view con) ≡ parts_width (parts_view c.deref.result.now) =
+    ap parts_width (con_view_out con ∙ ap parts_view (sym c.deref.ensures.value)) in
+    let other : eqb (parts_width (con_view con)) c.args.width ≡ false =
+    ne_eqb (parts_width (con_view con)) c.args.width (λ e. c.if-parts_bits-width.true (omega (arith, c.parts_bits.ensures, width, e))) in
     sym (ap (λ b. if b then other_width_from c.args.width (place + 1) rest else Some place) other)
     ∙ sym (ap (other_width_from c.args.width place) (at_con c.args.cons.now place con c.loop-place-test.true c.index-cons-place.is))
     ∙ c.loop-place.invariant
@@ -22,8 +24,10 @@ loop-place-preserved c =
     let con = c.index-cons-place.result in
     let place = c.loop-place.place in
     let rest = cons_view (drop (place + 1) c.args.cons.now) in
-    let width : parts_width (con_view con) ≡ parts_width (parts_view c.deref.result.now) = ap parts_width (con_view_out con ∙ ap parts_view (sym c.deref.ensures.value)) in
-    let same : eqb (parts_width (con_view con)) c.args.width ≡ true = eq-eqb (parts_width (con_view con)) c.args.width (omega (arith, c.parts_bits.ensures, c.if-parts_bits-width.false, width)) in
+    let width : parts_width (con_view con) ≡ parts_width (parts_view c.deref.result.now) =
+    ap parts_width (con_view_out con ∙ ap parts_view (sym c.deref.ensures.value)) in
+    let same : eqb (parts_width (con_view con)) c.args.width ≡ true =
+    eq-eqb (parts_width (con_view con)) c.args.width (omega (arith, c.parts_bits.ensures, c.if-parts_bits-width.false, width)) in
     sym (ap (λ b. if b then other_width_from c.args.width (place + 1) rest else Some place) same)
     ∙ sym (ap (other_width_from c.args.width place) (at_con c.args.cons.now place con c.loop-place-test.true c.index-cons-place.is))
     ∙ c.loop-place.invariant

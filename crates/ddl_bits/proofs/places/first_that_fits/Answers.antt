@@ -22,7 +22,8 @@ returns-then-parts_fit c =
     let con = c.index-cons-place.result in
     let place = c.loop-place.place in
     let rest = cons_view (drop (place + 1) c.args.cons.now) in
-    let first : true ≡ parts_fit (con_view con) c.args.number = c.if-parts_fit.ensures ∙ sym (ap (λ ps. parts_fit ps c.args.number) (con_view_out con ∙ ap parts_view (sym c.deref.ensures.value))) in
+    let first : true ≡ parts_fit (con_view con) c.args.number = c.if-parts_fit.ensures
+    ∙ sym (ap (λ ps. parts_fit ps c.args.number) (con_view_out con ∙ ap parts_view (sym c.deref.ensures.value))) in
     ap (λ b. if b then Some place else place_from (place + 1) rest c.args.number) first
     ∙ sym (ap (λ cs. place_from place cs c.args.number) (at_con c.args.cons.now place con c.loop-place-test.true c.index-cons-place.is))
     ∙ c.loop-place.invariant.same
@@ -33,7 +34,8 @@ loop-place-preserved c =
     let place = c.loop-place.place in
     let rest = cons_view (drop (place + 1) c.args.cons.now) in
     let step = con_step_at c.args.cons.now place con c.args.width c.loop-place-test.true c.index-cons-place.is c.loop-place.invariant.sized in
-    let first : false ≡ parts_fit (con_view con) c.args.number = c.if-parts_fit.ensures ∙ sym (ap (λ ps. parts_fit ps c.args.number) (con_view_out con ∙ ap parts_view (sym c.deref.ensures.value))) in
+    let first : false ≡ parts_fit (con_view con) c.args.number = c.if-parts_fit.ensures
+    ∙ sym (ap (λ ps. parts_fit ps c.args.number) (con_view_out con ∙ ap parts_view (sym c.deref.ensures.value))) in
     record {
       sized = step.2;
       same =

@@ -11,8 +11,10 @@ returns-then-parts_bits-eq-TOO_WIDE c =
     let con = c.index-cons-place.result in
     let place = c.loop-place.place in
     let rest = cons_view (drop (place + 1) c.args.cons.now) in
-    let width : parts_width (con_view con) ≡ parts_width (parts_view c.deref.result.now) = ap parts_width (con_view_out con ∙ ap parts_view (sym c.deref.ensures.value)) in
-    let wide : ltb 128 (parts_width (con_view con)) ≡ true = lt-ltb 128 (parts_width (con_view con)) (omega (arith, c.parts_bits.ensures, c.if-parts_bits-eq-TOO_WIDE.true, width)) in
+    let width : parts_width (con_view con) ≡ parts_width (parts_view c.deref.result.now) =
+    ap parts_width (con_view_out con ∙ ap parts_view (sym c.deref.ensures.value)) in
+    let wide : ltb 128 (parts_width (con_view con)) ≡ true =
+    lt-ltb 128 (parts_width (con_view con)) (omega (arith, c.parts_bits.ensures, c.if-parts_bits-eq-TOO_WIDE.true, width)) in
     sym (ap (λ b. if b then Some place else too_wide_from (place + 1) rest) wide)
     ∙ sym (ap (too_wide_from place) (at_con c.args.cons.now place con c.loop-place-test.true c.index-cons-place.is))
     ∙ c.loop-place.invariant
@@ -22,8 +24,10 @@ loop-place-preserved c =
     let con = c.index-cons-place.result in
     let place = c.loop-place.place in
     let rest = cons_view (drop (place + 1) c.args.cons.now) in
-    let width : parts_width (con_view con) ≡ parts_width (parts_view c.deref.result.now) = ap parts_width (con_view_out con ∙ ap parts_view (sym c.deref.ensures.value)) in
-    let narrow : ltb 128 (parts_width (con_view con)) ≡ false = le-ltb 128 (parts_width (con_view con)) (omega (arith, c.parts_bits.ensures, c.if-parts_bits-eq-TOO_WIDE.false, width)) in
+    let width : parts_width (con_view con) ≡ parts_width (parts_view c.deref.result.now) =
+    ap parts_width (con_view_out con ∙ ap parts_view (sym c.deref.ensures.value)) in
+    let narrow : ltb 128 (parts_width (con_view con)) ≡ false =
+    le-ltb 128 (parts_width (con_view con)) (omega (arith, c.parts_bits.ensures, c.if-parts_bits-eq-TOO_WIDE.false, width)) in
     sym (ap (λ b. if b then Some place else too_wide_from (place + 1) rest) narrow)
     ∙ sym (ap (too_wide_from place) (at_con c.args.cons.now place con c.loop-place-test.true c.index-cons-place.is))
     ∙ c.loop-place.invariant

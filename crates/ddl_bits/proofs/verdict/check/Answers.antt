@@ -11,7 +11,8 @@ use Rattle.ddl_bits.proofs.verdict.check.Goals as goal
 pub first_overlap-requires-clause-accepted : goal.first_overlap-requires-clause-accepted
 first_overlap-requires-clause-accepted c =
     let P : Cons → Type 0 = λ cs. ConsAccepted cs c.in-Ok.width in
-    subst P (layout_view_out c.args.layout ∙ ap cons_view (sym c.deref.ensures.value)) (one_width_accepted (layout_view c.args.layout) c.in-Ok.width (sym c.in-Ok.ensures) c.requires).1
+    subst P (layout_view_out c.args.layout ∙ ap cons_view (sym c.deref.ensures.value))
+    (one_width_accepted (layout_view c.args.layout) c.in-Ok.width (sym c.in-Ok.ensures) c.requires).1
 
 pub first_overlap-requires-clause-at_most_128 : goal.first_overlap-requires-clause-at_most_128
 first_overlap-requires-clause-at_most_128 c =

@@ -23,4 +23,5 @@ returns-in-Some c =
     let h : length c.args.group.now.asked.now ≤ c.loop-place.place = grind (arith, rules) in
     let P : List d.Asked → Type 0 = λ xs. IsClosing g f xs c.loop-place.kept.items c.loop-place.left in
     let Q : Option Span → Type 0 = λ l. IsClosing g f g.asked c.loop-place.kept.items l in
-    closing_unresolved g f c.loop-place.kept.items c.in-Some.span (subst Q c.in-Some.is (subst P (take_all c.args.group.now.asked.now c.loop-place.place h) c.loop-place.invariant))
+    closing_unresolved g f c.loop-place.kept.items c.in-Some.span
+    (subst Q c.in-Some.is (subst P (take_all c.args.group.now.asked.now c.loop-place.place h) c.loop-place.invariant))

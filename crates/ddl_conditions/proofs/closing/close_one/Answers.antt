@@ -26,7 +26,8 @@ returns-in-Met c =
     let x : Asked = get_or xs c.args.place c.index-group-place.result in
     let at : x ≡ get_or xs c.args.place x = ap (λ (d : Asked). get_or xs c.args.place d) c.index-group-place.is in
     let P : Fate → Type 0 = λ v. IsFate g f (asked_view x) v in
-    closing_met g f xs c.args.place x c.requires.within at c.args.kept.now.items c.args.left.now c.requires.closing (subst P c.in-Met.is c.in_ok-fate_of.ensures)
+    closing_met g f xs c.args.place x c.requires.within at c.args.kept.now.items c.args.left.now c.requires.closing
+    (subst P c.in-Met.is c.in_ok-fate_of.ensures)
 
 pub returns-in-False : goal.returns-in-False
 returns-in-False c =
@@ -36,7 +37,8 @@ returns-in-False c =
     let x : Asked = get_or xs c.args.place c.index-group-place.result in
     let at : x ≡ get_or xs c.args.place x = ap (λ (d : Asked). get_or xs c.args.place d) c.index-group-place.is in
     let P : Fate → Type 0 = λ v. IsFate g f (asked_view x) v in
-    closing_false g f xs c.args.place x c.requires.within at c.args.kept.now.items c.args.left.now c.requires.closing refl c.in-False.why (subst P c.in-False.is c.in_ok-fate_of.ensures)
+    closing_false g f xs c.args.place x c.requires.within at c.args.kept.now.items c.args.left.now c.requires.closing refl c.in-False.why
+    (subst P c.in-False.is c.in_ok-fate_of.ensures)
 
 pub returns-in_ok-keep-in-Kept : goal.returns-in_ok-keep-in-Kept
 returns-in_ok-keep-in-Kept c =
@@ -47,7 +49,8 @@ returns-in_ok-keep-in-Kept c =
     let at : x ≡ get_or xs c.args.place x = ap (λ (d : Asked). get_or xs c.args.place d) c.index-group-place.is in
     let P : Fate → Type 0 = λ v. IsFate g f (asked_view x) v in
     let Q : List ℕ → Type 0 = λ ks. IsClosing g f (take (c.args.place + 1) (map asked_view xs)) ks c.args.left.now in
-    subst Q (sym c.in_ok-keep-in-Kept.ensures) (closing_kept g f xs c.args.place x c.requires.within at c.args.kept.now.items c.args.left.now c.requires.closing (subst P c.in-Kept.is c.in_ok-fate_of.ensures))
+    subst Q (sym c.in_ok-keep-in-Kept.ensures) (closing_kept g f xs c.args.place x c.requires.within at c.args.kept.now.items c.args.left.now c.requires.closing
+    (subst P c.in-Kept.is c.in_ok-fate_of.ensures))
 
 pub returns-in-Left : goal.returns-in-Left
 returns-in-Left c =
@@ -58,4 +61,5 @@ returns-in-Left c =
     let at : x ≡ get_or xs c.args.place x = ap (λ (d : Asked). get_or xs c.args.place d) c.index-group-place.is in
     let P : Fate → Type 0 = λ v. IsFate g f (asked_view x) v in
     let Q : Option Span → Type 0 = λ l. IsClosing g f (take (c.args.place + 1) (map asked_view xs)) c.args.kept.now.items l in
-    subst Q (sym c.note_left.ensures) (closing_left g f xs c.args.place x c.requires.within at c.args.kept.now.items c.args.left.now c.requires.closing (subst P c.in-Left.is c.in_ok-fate_of.ensures))
+    subst Q (sym c.note_left.ensures) (closing_left g f xs c.args.place x c.requires.within at c.args.kept.now.items c.args.left.now c.requires.closing
+    (subst P c.in-Left.is c.in_ok-fate_of.ensures))

@@ -21,10 +21,13 @@ mark_places-returns-in_ok-mark_places-in-Array t c =
 
 pub mark_places-returns-in_ok-mark_places-in-Map-2 : goal.mark_places-returns-in_ok-mark_places-in-Map-2
 mark_places-returns-in_ok-mark_places-in-Map-2 t c =
-    let e : ty_view c.args.t.now ≡ con map_of (more (ty_view c.deref-in-Map.result.now) (more (ty_view c.deref-in-Map-2.result.now) none)) = grind (arith, layers) in
-    noted_two map_of (ty_view c.args.t.now) (ty_view c.deref-in-Map.result.now) (ty_view c.deref-in-Map-2.result.now) _ _ _ _ _ _ (λ p. refl) e c.in_ok-mark_places-in-Map.ensures c.in_ok-mark_places-in-Map-2.ensures
+    let e : ty_view c.args.t.now ≡ con map_of (more (ty_view c.deref-in-Map.result.now) (more (ty_view c.deref-in-Map-2.result.now) none)) =
+    grind (arith, layers) in
+    noted_two map_of (ty_view c.args.t.now) (ty_view c.deref-in-Map.result.now) (ty_view c.deref-in-Map-2.result.now) _ _ _ _ _ _ (λ p.
+    refl) e c.in_ok-mark_places-in-Map.ensures c.in_ok-mark_places-in-Map-2.ensures
 
 pub mark_places-returns-in_ok-mark_all-in-Place : goal.mark_places-returns-in_ok-mark_all-in-Place
 mark_places-returns-in_ok-mark_all-in-Place t c =
     let e : ty_view c.args.t.now ≡ con (place c.in-Place.number) (tys_of (map ty_view c.deref-in-Place.result.now)) = grind (arith, layers) in
-    noted_place c.in-Place.number (ty_view c.args.t.now) (tys_of (map ty_view c.deref-in-Place.result.now)) _ _ _ _ _ _ e c.in_ok-note-in-Place.ensures c.in_ok-mark_all-in-Place.ensures
+    noted_place c.in-Place.number (ty_view c.args.t.now) (tys_of (map ty_view c.deref-in-Place.result.now)) _ _ _ _ _ _ e c.in_ok-note-in-Place.ensures
+    c.in_ok-mark_all-in-Place.ensures

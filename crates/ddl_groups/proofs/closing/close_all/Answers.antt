@@ -10,10 +10,16 @@ loop-place-preserved c =
     let marks_in : v < length c.loop-place.marks.items = rw c.loop-place.invariant.long.0 known.0 in
     let labels_in : v < length c.loop-place.labels.items = rw c.loop-place.invariant.long.1 known.1 in
     record {
-      long = (length-set c.loop-place.marks.items v Closed ∙ c.loop-place.invariant.long.0, length-set c.loop-place.labels.items v c.args.label ∙ c.loop-place.invariant.long.1);
-      closed = more_closed c.args.path.now c.args.head c.args.label c.loop-place.place c.loop-place.marks.items c.args.marks.now.items c.loop-place.labels.items c.args.labels.now.items marks_in labels_in
+      long = (
+        length-set c.loop-place.marks.items v Closed ∙ c.loop-place.invariant.long.0,
+        length-set c.loop-place.labels.items v c.args.label
+            ∙ c.loop-place.invariant.long.1,
+      );
+      closed = more_closed c.args.path.now c.args.head c.args.label c.loop-place.place c.loop-place.marks.items c.args.marks.now.items c.loop-place.labels.items
+          c.args.labels.now.items marks_in labels_in
           c.loop-place.invariant.closed;
-      others = more_others c.args.path.now c.args.head c.args.label c.loop-place.place c.loop-place.marks.items c.args.marks.now.items c.loop-place.labels.items c.args.labels.now.items marks_in labels_in
+      others = more_others c.args.path.now c.args.head c.args.label c.loop-place.place c.loop-place.marks.items c.args.marks.now.items c.loop-place.labels.items
+          c.args.labels.now.items marks_in labels_in
           c.loop-place.invariant.others (omega arith);
       fewer = omega (arith, no_more_unseen c.loop-place.marks.items v marks_in, c.loop-place.invariant.fewer);
     }

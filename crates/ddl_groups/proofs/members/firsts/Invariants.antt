@@ -4,4 +4,5 @@ use Rattle.ddl_groups.specs.Placing.{lists_of}
 use Rattle.ddl_groups.proofs.members.firsts.Given as goal
 
 abbrev pub invariant-loop-group : goal.invariant-loop-group
-invariant-loop-group l = (length l.firsts.items ≡ l.group-index) × ((k : ℕ) → k < l.group-index → slice_index l.firsts.items k ≡ first_member (lists_of l.members) k)
+invariant-loop-group l = (length l.firsts.items ≡ l.group-index)
+    × ((k : ℕ) → k < l.group-index → slice_index l.firsts.items k ≡ first_member (lists_of l.members) k)

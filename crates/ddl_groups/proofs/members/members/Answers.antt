@@ -14,12 +14,16 @@ loop-declaration-preserved c =
     let l_in : l < length (lists_of c.loop-declaration.lists.items) =
     rw (lists_long c.loop-declaration.lists.items, c.loop-declaration.invariant.long) (c.requires.known a 0 c.loop-declaration-test.true) in
     record {
-      long = sym (lists_long c.add_to.new.lists.items) ∙ rw e (length-set (lists_of c.loop-declaration.lists.items) l (group_at (lists_of c.loop-declaration.lists.items) l ++ a ∷ [])
+      long = sym (lists_long c.add_to.new.lists.items) ∙ rw e
+          (length-set (lists_of c.loop-declaration.lists.items) l (group_at (lists_of c.loop-declaration.lists.items) l ++ a ∷ [])
           ∙ lists_long c.loop-declaration.lists.items ∙ c.loop-declaration.invariant.long);
       are = rw e (members_more c.args.labels.now a (lists_of c.loop-declaration.lists.items) c.loop-declaration.invariant.are l_in);
     }
 
 pub returns : goal.returns
 returns c =
-    let e : c.loop-declaration.declaration ≡ length c.args.labels.now = omega arith in
-    (c.loop-declaration.invariant.long, subst (λ n. AreMembers c.args.labels.now n (lists_of c.loop-declaration.lists.items)) e c.loop-declaration.invariant.are)
+    let e : c.loop-declaration.declaration ≡ length c.args.labels.now = omega arith in (
+      c.loop-declaration.invariant.long,
+      subst (λ n. AreMembers c.args.labels.now n (lists_of c.loop-declaration.lists.items)) e
+          c.loop-declaration.invariant.are,
+    )

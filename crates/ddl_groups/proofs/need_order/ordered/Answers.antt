@@ -12,7 +12,8 @@ firsts-requires c l l_in =
     let M : AreMembers c.in_ok-found.found.of.items (length c.in_ok-found.found.of.items) (lists_of c.in_ok-by_label.by_label.items) =
     subst (λ xs. AreMembers xs (length xs) (lists_of c.in_ok-by_label.by_label.items)) c.deref.ensures.value c.in_ok-by_label.ensures.1 in
     let in_count : l < c.in_ok-found.found.count = subst (λ n. l < n) c.in_ok-by_label.ensures.0 (subst (λ xs. l < length xs) c.deref-2.ensures.value l_in) in
-    rw c.deref-2.ensures.value (has_member (lists_of c.args.needs.now) c.in_ok-found.found.of.items (lists_of c.in_ok-by_label.by_label.items) c.in_ok-found.found.count M c.in_ok-found.ensures.some l in_count)
+    rw c.deref-2.ensures.value (has_member (lists_of c.args.needs.now) c.in_ok-found.found.of.items (lists_of c.in_ok-by_label.by_label.items)
+    c.in_ok-found.found.count M c.in_ok-found.ensures.some l in_count)
 
 pub group_uses-requires-clause-known : goal.group_uses-requires-clause-known
 group_uses-requires-clause-known c a k d l =
@@ -28,14 +29,18 @@ group_order-requires-clause-numbered c =
     subst (λ xs. AreMembers xs (length xs) (lists_of c.in_ok-by_label.by_label.items)) c.deref.ensures.value c.in_ok-by_label.ensures.1 in
     let G : AreGroupNeeds needs labels (length needs) (lists_of c.in_ok-uses.uses.needs.items) =
     subst (λ xs. AreGroupNeeds needs xs (length needs) (lists_of c.in_ok-uses.uses.needs.items)) c.deref-3.ensures.value
-    (subst (λ n. AreGroupNeeds needs c.deref-3.result.now n (lists_of c.in_ok-uses.uses.needs.items)) (sym (lists_long c.args.needs.now)) c.in_ok-uses.ensures.needs) in
+    (subst (λ n. AreGroupNeeds needs c.deref-3.result.now n (lists_of c.in_ok-uses.uses.needs.items)) (sym (lists_long c.args.needs.now))
+    c.in_ok-uses.ensures.needs) in
     let firsts_long : length c.in_ok-first.first.items ≡ c.in_ok-found.found.count =
     subst (λ xs. length c.in_ok-first.first.items ≡ length xs) c.deref-2.ensures.value c.in_ok-first.ensures.0 ∙ c.in_ok-by_label.ensures.0 in
     let first : (l : ℕ) → l < c.in_ok-found.found.count → slice_index c.in_ok-first.first.items l ≡ first_member (lists_of c.in_ok-by_label.by_label.items) l =
-    subst (λ n. (l : ℕ) → l < n → slice_index c.in_ok-first.first.items l ≡ first_member (lists_of c.in_ok-by_label.by_label.items) l) c.in_ok-by_label.ensures.0
-    (subst (λ xs. (l : ℕ) → l < length xs → slice_index c.in_ok-first.first.items l ≡ first_member (lists_of xs) l) c.deref-2.ensures.value c.in_ok-first.ensures.1) in
+    subst (λ n. (l : ℕ) → l < n → slice_index c.in_ok-first.first.items l ≡ first_member (lists_of c.in_ok-by_label.by_label.items) l)
+    c.in_ok-by_label.ensures.0
+    (subst (λ xs. (l : ℕ) → l < length xs → slice_index c.in_ok-first.first.items l ≡ first_member (lists_of xs) l) c.deref-2.ensures.value
+    c.in_ok-first.ensures.1) in
     rw (c.deref-4.ensures.value, c.deref-6.ensures.value, c.deref-7.ensures.value)
-    (numbered needs labels (lists_of c.in_ok-by_label.by_label.items) c.in_ok-found.found.count M c.in_ok-found.ensures.some (lists_of c.in_ok-uses.uses.needs.items) c.in_ok-first.first.items
+    (numbered needs labels (lists_of c.in_ok-by_label.by_label.items) c.in_ok-found.found.count M c.in_ok-found.ensures.some
+    (lists_of c.in_ok-uses.uses.needs.items) c.in_ok-first.first.items
     c.in_ok-found.ensures.are G (lists_long c.in_ok-uses.uses.needs.items ∙ c.in_ok-uses.ensures.long) firsts_long first)
 
 pub in_order-requires : goal.in_order-requires
@@ -45,7 +50,8 @@ in_order-requires c k d l =
     let k_in : k < length c.in_ok-order.order.items = subst (λ xs. k < length xs) c.deref-9.ensures.value l in
     let m : slice_index c.in_ok-order.order.items k < length (lists_of c.in_ok-uses.uses.needs.items) = O.known k k_in in
     let n : slice_index c.in_ok-order.order.items k < length c.in_ok-by_label.by_label.items =
-    subst (λ n. slice_index c.in_ok-order.order.items k < n) (lists_long c.in_ok-uses.uses.needs.items ∙ c.in_ok-uses.ensures.long ∙ sym c.in_ok-by_label.ensures.0) m in
+    subst (λ n. slice_index c.in_ok-order.order.items k < n) (lists_long c.in_ok-uses.uses.needs.items ∙ c.in_ok-uses.ensures.long
+    ∙ sym c.in_ok-by_label.ensures.0) m in
     rw (c.deref-8.ensures.value, c.deref-9.ensures.value, get_or_default c.in_ok-order.order.items k d 0 k_in) n
 
 pub returns : goal.returns
@@ -62,16 +68,20 @@ returns c =
     subst (λ xs. length c.in_ok-first.first.items ≡ length xs) c.deref-2.ensures.value c.in_ok-first.ensures.0 ∙ c.in_ok-by_label.ensures.0 in
     let first : (l : ℕ) → l < c.in_ok-found.found.count → slice_index c.in_ok-first.first.items l ≡ first_member members l =
     subst (λ n. (l : ℕ) → l < n → slice_index c.in_ok-first.first.items l ≡ first_member members l) c.in_ok-by_label.ensures.0
-    (subst (λ xs. (l : ℕ) → l < length xs → slice_index c.in_ok-first.first.items l ≡ first_member (lists_of xs) l) c.deref-2.ensures.value c.in_ok-first.ensures.1) in
+    (subst (λ xs. (l : ℕ) → l < length xs → slice_index c.in_ok-first.first.items l ≡ first_member (lists_of xs) l) c.deref-2.ensures.value
+    c.in_ok-first.ensures.1) in
     let O : IsOrder lists c.in_ok-first.first.items c.in_ok-order.order.items =
     subst (λ xs. IsOrder lists xs c.in_ok-order.order.items) c.deref-6.ensures.value
     (subst (λ xs. IsOrder (lists_of xs) c.deref-6.result.now c.in_ok-order.order.items) c.deref-4.ensures.value c.in_ok-order.ensures) in
     let groups_long : length (lists_of c.in_ok-groups.groups.items) ≡ length c.in_ok-order.order.items =
     lists_long c.in_ok-groups.groups.items ∙ subst (λ xs. length c.in_ok-groups.groups.items ≡ length xs) c.deref-9.ensures.value c.in_ok-groups.ensures.0 in
-    let same : (k : ℕ) → k < length c.in_ok-order.order.items → group_at (lists_of c.in_ok-groups.groups.items) k ≡ group_at members (slice_index c.in_ok-order.order.items k) =
+    let same : (k : ℕ) → k < length c.in_ok-order.order.items
+    → group_at (lists_of c.in_ok-groups.groups.items) k ≡ group_at members (slice_index c.in_ok-order.order.items k) =
     subst (λ xs. (k : ℕ) → k < length xs → group_at (lists_of c.in_ok-groups.groups.items) k ≡ group_at members (slice_index xs k)) c.deref-9.ensures.value
-    (subst (λ ys. (k : ℕ) → k < length c.deref-9.result.now → group_at (lists_of c.in_ok-groups.groups.items) k ≡ group_at (lists_of ys) (slice_index c.deref-9.result.now k))
+    (subst (λ ys. (k : ℕ) → k < length c.deref-9.result.now
+    → group_at (lists_of c.in_ok-groups.groups.items) k ≡ group_at (lists_of ys) (slice_index c.deref-9.result.now k))
     c.deref-8.ensures.value c.in_ok-groups.ensures.1) in
     grouped needs labels members c.in_ok-found.found.count M c.in_ok-found.ensures.some lists c.in_ok-first.first.items c.in_ok-found.ensures.are G
-    (lists_long c.in_ok-uses.uses.needs.items ∙ c.in_ok-uses.ensures.long) firsts_long first c.in_ok-order.order.items O (lists_of c.in_ok-groups.groups.items) groups_long
+    (lists_long c.in_ok-uses.uses.needs.items ∙ c.in_ok-uses.ensures.long) firsts_long first c.in_ok-order.order.items O (lists_of c.in_ok-groups.groups.items)
+    groups_long
     c.in_ok-found.ensures.below same c.requires.known

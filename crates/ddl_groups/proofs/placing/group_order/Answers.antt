@@ -19,7 +19,8 @@ settle-requires-clause-waiting c =
 
 pub loop-first-init : goal.loop-first-init
 loop-first-init c = record {
-  placing = rw c.new-order.ensures.items (start_placing (lists_of c.args.needs.now) (length c.args.needs.now) c.args.firsts.now c.args.labels.now c.in_ok-placed.placed.items
+  placing = rw c.new-order.ensures.items (start_placing (lists_of c.args.needs.now) (length c.args.needs.now) c.args.firsts.now c.args.labels.now
+      c.in_ok-placed.placed.items
       (lists_long c.args.needs.now) c.in_ok-placed.ensures);
   waiting = rw (← c.deref-2.ensures.value) c.in_ok-settle.ensures;
 }
@@ -31,11 +32,19 @@ pub settle-requires-in-Some-clause-in_hand : goal.settle-requires-in-Some-clause
 settle-requires-in-Some-clause-in_hand c =
     let l : ℕ = slice_index c.args.labels.now c.in-Some.first in
     let in_users : l < length c.args.users.now =
-    rw (← lists_long c.args.users.now) (has_users (lists_of c.args.needs.now) c.args.firsts.now c.args.labels.now c.loop-first.placed.items c.loop-first.order.items c.loop-first.left.items
-    c.loop-first.ready.keys c.take_least.new.ready.keys c.in-Some.first l c.loop-first.invariant.placing c.loop-first.invariant.waiting c.requires.numbered c.in-Some.ensures.0 (λ i. l)
+    rw (← lists_long c.args.users.now) (has_users (lists_of c.args.needs.now) c.args.firsts.now c.args.labels.now c.loop-first.placed.items
+    c.loop-first.order.items c.loop-first.left.items
+    c.loop-first.ready.keys c.take_least.new.ready.keys c.in-Some.first l c.loop-first.invariant.placing c.loop-first.invariant.waiting c.requires.numbered
+    c.in-Some.ensures.0 (λ i. l)
     c.in-Some.ensures.1 c.in-Some.ensures.2 (lists_of c.args.users.now) c.requires.used) in
-    rw (c.deref-in-Some.ensures.value, c.deref-in-Some-2.ensures.value, ← list_at c.args.users.now l c.index-users-group.result in_users c.index-users-group.is, ← lists_long c.args.needs.now)
-    (users_open (lists_of c.args.needs.now) c.args.firsts.now c.args.labels.now c.loop-first.placed.items c.loop-first.order.items c.loop-first.left.items c.loop-first.ready.keys
+    rw (
+      c.deref-in-Some.ensures.value,
+      c.deref-in-Some-2.ensures.value,
+      ← list_at c.args.users.now l c.index-users-group.result in_users c.index-users-group.is,
+      ← lists_long c.args.needs.now,
+    )
+    (users_open (lists_of c.args.needs.now) c.args.firsts.now c.args.labels.now c.loop-first.placed.items c.loop-first.order.items c.loop-first.left.items
+    c.loop-first.ready.keys
     c.take_least.new.ready.keys c.in-Some.first l c.loop-first.invariant.placing c.loop-first.invariant.waiting c.requires.numbered c.in-Some.ensures.0 (λ i. l)
     c.in-Some.ensures.1 c.in-Some.ensures.2 (lists_of c.args.users.now) c.requires.used)
 
@@ -43,11 +52,14 @@ pub settle-requires-in-Some-clause-waiting : goal.settle-requires-in-Some-clause
 settle-requires-in-Some-clause-waiting c =
     let l : ℕ = slice_index c.args.labels.now c.in-Some.first in
     let in_users : l < length c.args.users.now =
-    rw (← lists_long c.args.users.now) (has_users (lists_of c.args.needs.now) c.args.firsts.now c.args.labels.now c.loop-first.placed.items c.loop-first.order.items c.loop-first.left.items
-    c.loop-first.ready.keys c.take_least.new.ready.keys c.in-Some.first l c.loop-first.invariant.placing c.loop-first.invariant.waiting c.requires.numbered c.in-Some.ensures.0 (λ i. l)
+    rw (← lists_long c.args.users.now) (has_users (lists_of c.args.needs.now) c.args.firsts.now c.args.labels.now c.loop-first.placed.items
+    c.loop-first.order.items c.loop-first.left.items
+    c.loop-first.ready.keys c.take_least.new.ready.keys c.in-Some.first l c.loop-first.invariant.placing c.loop-first.invariant.waiting c.requires.numbered
+    c.in-Some.ensures.0 (λ i. l)
     c.in-Some.ensures.1 c.in-Some.ensures.2 (lists_of c.args.users.now) c.requires.used) in
     rw (c.deref-in-Some.ensures.value, c.deref-in-Some-2.ensures.value, ← list_at c.args.users.now l c.index-users-group.result in_users c.index-users-group.is)
-    (hand_after (lists_of c.args.needs.now) c.args.firsts.now c.args.labels.now c.loop-first.placed.items c.loop-first.order.items c.loop-first.left.items c.loop-first.ready.keys
+    (hand_after (lists_of c.args.needs.now) c.args.firsts.now c.args.labels.now c.loop-first.placed.items c.loop-first.order.items c.loop-first.left.items
+    c.loop-first.ready.keys
     c.take_least.new.ready.keys c.in-Some.first l c.loop-first.invariant.placing c.loop-first.invariant.waiting c.requires.numbered c.in-Some.ensures.0 (λ i. l)
     c.in-Some.ensures.1 c.in-Some.ensures.2 (lists_of c.args.users.now) c.requires.used)
 
@@ -55,13 +67,16 @@ pub loop-first-preserved : goal.loop-first-preserved
 loop-first-preserved c =
     let l : ℕ = slice_index c.args.labels.now c.in-Some.first in
     record {
-      placing = rw c.in_ok-push.ensures.items (placed_one (lists_of c.args.needs.now) c.args.firsts.now c.args.labels.now c.loop-first.placed.items c.loop-first.order.items c.loop-first.left.items
-          c.loop-first.ready.keys c.take_least.new.ready.keys c.in-Some.first l c.loop-first.invariant.placing c.loop-first.invariant.waiting c.requires.numbered c.in-Some.ensures.0 (λ i. l)
+      placing = rw c.in_ok-push.ensures.items (placed_one (lists_of c.args.needs.now) c.args.firsts.now c.args.labels.now c.loop-first.placed.items
+          c.loop-first.order.items c.loop-first.left.items
+          c.loop-first.ready.keys c.take_least.new.ready.keys c.in-Some.first l c.loop-first.invariant.placing c.loop-first.invariant.waiting
+          c.requires.numbered c.in-Some.ensures.0 (λ i. l)
           c.in-Some.ensures.1 c.in-Some.ensures.2);
       waiting = rw (← c.deref-in-Some-2.ensures.value) c.in_ok-settle-2.ensures;
     }
 
 pub returns : goal.returns
 returns c =
-    whole_order (lists_of c.args.needs.now) c.args.firsts.now c.args.labels.now c.loop-first.placed.items c.loop-first.order.items c.loop-first.left.items c.loop-first.ready.keys
+    whole_order (lists_of c.args.needs.now) c.args.firsts.now c.args.labels.now c.loop-first.placed.items c.loop-first.order.items c.loop-first.left.items
+    c.loop-first.ready.keys
     c.loop-first.invariant.placing c.loop-first.invariant.waiting c.requires.numbered c.in_default.ensures

@@ -7,7 +7,8 @@ use Rattle.ddl_groups.proofs.search.labels.Goals as goal
 
 pub loop-root-init : goal.loop-root-init
 loop-root-init c =
-    let S : IsStart (length (lists_of c.args.needs.now)) c.in_ok-search.search = subst (λ n. IsStart n c.in_ok-search.search) (sym (lists_long c.args.needs.now)) c.in_ok-search.ensures in
+    let S : IsStart (length (lists_of c.args.needs.now)) c.in_ok-search.search =
+    subst (λ n. IsStart n c.in_ok-search.search) (sym (lists_long c.args.needs.now)) c.in_ok-search.ensures in
     record { idle = start_idle (lists_of c.args.needs.now) c.in_ok-search.search S; seen = λ v l. absurd (omega (arith, l)) }
 
 pub returns : goal.returns

@@ -21,11 +21,13 @@ loop-declaration-preserved c =
       | then-other-label+in_ok-add_to+in_ok-add_to-2 w ↦
           rw w.uses-is (rw (w.in_ok-add_to.ensures, w.in_ok-add_to-2.ensures) (record {
             users = users_more needs users c.loop-declaration.invariant.users c.args.label other l_in h_in;
-            needs = needs_other before c.args.label c.args.used.now c.args.labels.now needs i c.loop-declaration-test.true c.loop-declaration.invariant.needs l_in w.if-other-label.true;
+            needs = needs_other before c.args.label c.args.used.now c.args.labels.now needs i c.loop-declaration-test.true c.loop-declaration.invariant.needs
+                l_in w.if-other-label.true;
           }))
       | else-other-label w ↦
           rw w.uses-is (record {
             users = c.loop-declaration.invariant.users;
-            needs = needs_same before c.args.label c.args.used.now c.args.labels.now needs i c.loop-declaration-test.true c.loop-declaration.invariant.needs w.if-other-label.false;
+            needs = needs_same before c.args.label c.args.used.now c.args.labels.now needs i c.loop-declaration-test.true c.loop-declaration.invariant.needs
+                w.if-other-label.false;
           })
     ]

@@ -6,8 +6,12 @@ use Rattle.ddl_growing.proofs.adding.add_three.Goals as goal
 
 pub returns-in_err-add-clause-added : goal.returns-in_err-add-clause-added
 returns-in_err-add-clause-added c =
-    refused_first (sides_view c.args.first) (sides_view c.args.second ∷ sides_view c.args.third ∷ []) c.args.span (solved c.args.solver.now) (solved c.add.new.solver) c.from_residual.result c.in_err-add.field-0.0 c.from_residual.ensures.1 c.in_err-add.ensures.added
+    refused_first (sides_view c.args.first) (sides_view c.args.second ∷ sides_view c.args.third ∷ []) c.args.span (solved c.args.solver.now)
+    (solved c.add.new.solver) c.from_residual.result c.in_err-add.field-0.0 c.from_residual.ensures.1 c.in_err-add.ensures.added
 
 pub returns-clause-added : goal.returns-clause-added
 returns-clause-added c =
-    carried_then (sides_view c.args.second) (sides_view c.args.first ∷ []) (sides_view c.args.third ∷ []) 0 0 0 c.args.span (solved c.args.solver.now) (solved c.add.new.solver) (solved c.add_two.new.solver) c.add_two.result refl (carried_added (sides_view c.args.first) [] 0 (solved c.args.solver.now) (solved c.add.new.solver) c.in_ok-add.field-0 c.in_ok-add.ensures.added) c.add_two.ensures.added
+    carried_then (sides_view c.args.second) (sides_view c.args.first ∷ []) (sides_view c.args.third ∷ []) 0 0 0 c.args.span (solved c.args.solver.now)
+    (solved c.add.new.solver) (solved c.add_two.new.solver) c.add_two.result refl
+    (carried_added (sides_view c.args.first) [] 0 (solved c.args.solver.now) (solved c.add.new.solver) c.in_ok-add.field-0 c.in_ok-add.ensures.added)
+    c.add_two.ensures.added

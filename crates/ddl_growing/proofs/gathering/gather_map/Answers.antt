@@ -7,9 +7,19 @@ use Rattle.ddl_growing.proofs.gathering.gather_map.Goals as goal
 
 pub add_four-requires : goal.add_four-requires
 add_four-requires c = record {
-  below = map_gather_below (ty_view c.in_ok-map.map) (ty_view c.args.form.over.now) _ (ty_view c.args.form.key.now) _ (ty_view c.args.form.value.now) (ty_view c.in_ok-made.made) (ty_view c.args.body.now) (ty_view c.in_ok-copied.copied) (ty_view c.args.whole.now) _ c.in_ok-of_key.of_key c.in_ok-of_value.of_value (solved c.args.solver.now) (solved c.fresh_variable.new.solver) (solved c.fresh_variable-2.new.solver) c.in_ok-map.ensures (search (rules, layers)) (search (rules, layers)) c.in_ok-made.ensures (search (rules, layers)) c.in_ok-copied.ensures c.in_ok-of_key.ensures.variable c.in_ok-of_value.ensures.variable c.in_ok-of_key.ensures.added c.in_ok-of_value.ensures.added c.requires.over_below c.requires.key_below c.requires.value_below c.requires.body_below c.requires.whole_below;
+  below = map_gather_below (ty_view c.in_ok-map.map) (ty_view c.args.form.over.now) _ (ty_view c.args.form.key.now) _ (ty_view c.args.form.value.now)
+      (ty_view c.in_ok-made.made) (ty_view c.args.body.now) (ty_view c.in_ok-copied.copied) (ty_view c.args.whole.now) _ c.in_ok-of_key.of_key
+      c.in_ok-of_value.of_value (solved c.args.solver.now) (solved c.fresh_variable.new.solver) (solved c.fresh_variable-2.new.solver) c.in_ok-map.ensures
+      (search (rules, layers)) (search (rules, layers)) c.in_ok-made.ensures (search (rules, layers)) c.in_ok-copied.ensures c.in_ok-of_key.ensures.variable
+      c.in_ok-of_value.ensures.variable c.in_ok-of_key.ensures.added c.in_ok-of_value.ensures.added c.requires.over_below c.requires.key_below
+      c.requires.value_below c.requires.body_below c.requires.whole_below;
 }
 
 pub returns-clause-added : goal.returns-clause-added
 returns-clause-added c =
-    map_gathered (ty_view c.in_ok-map.map) (ty_view c.args.form.over.now) _ (ty_view c.args.form.key.now) _ (ty_view c.args.form.value.now) (ty_view c.in_ok-made.made) (ty_view c.args.body.now) (ty_view c.in_ok-copied.copied) (ty_view c.args.whole.now) _ c.in_ok-of_key.of_key c.in_ok-of_value.of_value c.args.span (solved c.args.solver.now) (solved c.fresh_variable.new.solver) (solved c.fresh_variable-2.new.solver) (solved c.add_four.new.solver) c.add_four.result c.in_ok-map.ensures (search (rules, layers)) (search (rules, layers)) c.in_ok-made.ensures (search (rules, layers)) c.in_ok-copied.ensures c.in_ok-of_key.ensures.variable c.in_ok-of_value.ensures.variable c.in_ok-of_key.ensures.added c.in_ok-of_value.ensures.added c.add_four.ensures.added
+    map_gathered (ty_view c.in_ok-map.map) (ty_view c.args.form.over.now) _ (ty_view c.args.form.key.now) _ (ty_view c.args.form.value.now)
+    (ty_view c.in_ok-made.made) (ty_view c.args.body.now) (ty_view c.in_ok-copied.copied) (ty_view c.args.whole.now) _ c.in_ok-of_key.of_key
+    c.in_ok-of_value.of_value c.args.span (solved c.args.solver.now) (solved c.fresh_variable.new.solver) (solved c.fresh_variable-2.new.solver)
+    (solved c.add_four.new.solver) c.add_four.result c.in_ok-map.ensures (search (rules, layers)) (search (rules, layers)) c.in_ok-made.ensures
+    (search (rules, layers)) c.in_ok-copied.ensures c.in_ok-of_key.ensures.variable c.in_ok-of_value.ensures.variable c.in_ok-of_key.ensures.added
+    c.in_ok-of_value.ensures.added c.add_four.ensures.added

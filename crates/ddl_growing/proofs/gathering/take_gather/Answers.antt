@@ -13,20 +13,28 @@ use Rattle.ddl_growing.proofs.gathering.take_gather.Goals as goal
 pub returns-in-Unknown-clause-taken : goal.returns-in-Unknown-clause-taken
 returns-in-Unknown-clause-taken c ss =
     let t = ty_view c.args.form.over.now in
-    waits_one ss (asking (gather t (ty_view c.args.form.key.now) (ty_view c.args.form.value.now) (ty_view c.args.body.now) (ty_view c.args.whole.now)) c.args.span) t (solved c.args.solver.now) refl c.in-Unknown.ensures.head
+    waits_one ss (asking (gather t (ty_view c.args.form.key.now) (ty_view c.args.form.value.now) (ty_view c.args.body.now) (ty_view c.args.whole.now))
+    c.args.span) t (solved c.args.solver.now) refl c.in-Unknown.ensures.head
 
 pub returns-in-Array-clause-taken : goal.returns-in-Array-clause-taken
 returns-in-Array-clause-taken c ss =
     let t = ty_view c.args.form.over.now in
-    taken_one ss (asking (gather t (ty_view c.args.form.key.now) (ty_view c.args.form.value.now) (ty_view c.args.body.now) (ty_view c.args.whole.now)) c.args.span) t array_of (solved c.args.solver.now) (solved c.gather_array.new.solver) c.gather_array.result refl c.in-Array.ensures.head c.gather_array.ensures.added
+    taken_one ss (asking (gather t (ty_view c.args.form.key.now) (ty_view c.args.form.value.now) (ty_view c.args.body.now) (ty_view c.args.whole.now))
+    c.args.span) t array_of (solved c.args.solver.now) (solved c.gather_array.new.solver) c.gather_array.result refl c.in-Array.ensures.head
+    c.gather_array.ensures.added
 
 pub returns-in-Map-clause-taken : goal.returns-in-Map-clause-taken
 returns-in-Map-clause-taken c ss =
     let t = ty_view c.args.form.over.now in
-    taken_one ss (asking (gather t (ty_view c.args.form.key.now) (ty_view c.args.form.value.now) (ty_view c.args.body.now) (ty_view c.args.whole.now)) c.args.span) t map_of (solved c.args.solver.now) (solved c.gather_map.new.solver) c.gather_map.result refl c.in-Map.ensures.head c.gather_map.ensures.added
+    taken_one ss (asking (gather t (ty_view c.args.form.key.now) (ty_view c.args.form.value.now) (ty_view c.args.body.now) (ty_view c.args.whole.now))
+    c.args.span) t map_of (solved c.args.solver.now) (solved c.gather_map.new.solver) c.gather_map.result refl c.in-Map.ensures.head
+    c.gather_map.ensures.added
 
 pub returns-in_default-clause-taken : goal.returns-in_default-clause-taken
 returns-in_default-clause-taken c ss =
     let t = ty_view c.args.form.over.now in
-    silent_one ss (asking (gather t (ty_view c.args.form.key.now) (ty_view c.args.form.value.now) (ty_view c.args.body.now) (ty_view c.args.whole.now)) c.args.span) t (solved c.args.solver.now) refl
-    (quiet_gather ss t (ty_view c.args.form.key.now) (ty_view c.args.form.value.now) (ty_view c.args.body.now) (ty_view c.args.whole.now) (variables c.args.solver.now) c.known_head.result (head (on t (solution c.args.solver.now))) c.known_head.ensures.head c.in_default.not-Unknown c.in_default.not-Array c.in_default.not-Map)
+    silent_one ss (asking (gather t (ty_view c.args.form.key.now) (ty_view c.args.form.value.now) (ty_view c.args.body.now) (ty_view c.args.whole.now))
+    c.args.span) t (solved c.args.solver.now) refl
+    (quiet_gather ss t (ty_view c.args.form.key.now) (ty_view c.args.form.value.now) (ty_view c.args.body.now) (ty_view c.args.whole.now)
+    (variables c.args.solver.now) c.known_head.result (head (on t (solution c.args.solver.now))) c.known_head.ensures.head c.in_default.not-Unknown
+    c.in_default.not-Array c.in_default.not-Map)

@@ -10,5 +10,6 @@ returns-in-Unknown-clause-heard c = waits_first (ty_view c.args.first.now) (ty_v
 
 pub returns-in_default-clause-heard : goal.returns-in_default-clause-heard
 returns-in_default-clause-heard c =
-    let x = some_head c.known_head.result (head (on (ty_view c.args.first.now) (solution c.args.solver.now))) c.known_head.ensures.head c.in_default.not-Unknown in
+    let x = some_head c.known_head.result (head (on (ty_view c.args.first.now) (solution c.args.solver.now))) c.known_head.ensures.head c.in_default.not-Unknown
+    in
     heard_second x.0 (ty_view c.args.first.now) (ty_view c.args.second.now) (solution c.args.solver.now) c.wait_for.result x.1 c.wait_for.ensures.heard

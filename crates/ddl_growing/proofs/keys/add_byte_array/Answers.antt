@@ -7,9 +7,13 @@ use Rattle.ddl_growing.proofs.keys.add_byte_array.Goals as goal
 
 pub add_two-requires : goal.add_two-requires
 add_two-requires c = record {
-  below = bytes_below (ty_view c.in_ok-array.array) (ty_view c.args.of.now) _ _ c.in_ok-variable.variable (solved c.args.solver.now) (solved c.fresh_variable.new.solver) c.in_ok-array.ensures (search (rules, layers)) (search (rules, layers)) c.in_ok-variable.ensures.variable c.in_ok-variable.ensures.added c.requires.below;
+  below = bytes_below (ty_view c.in_ok-array.array) (ty_view c.args.of.now) _ _ c.in_ok-variable.variable (solved c.args.solver.now)
+      (solved c.fresh_variable.new.solver) c.in_ok-array.ensures (search (rules, layers)) (search (rules, layers)) c.in_ok-variable.ensures.variable
+      c.in_ok-variable.ensures.added c.requires.below;
 }
 
 pub returns-clause-added : goal.returns-clause-added
 returns-clause-added c =
-    bytes_carried (ty_view c.in_ok-array.array) (ty_view c.args.of.now) _ _ c.in_ok-variable.variable c.args.span (solved c.args.solver.now) (solved c.fresh_variable.new.solver) (solved c.add_two.new.solver) c.add_two.result c.in_ok-array.ensures (search (rules, layers)) (search (rules, layers)) c.in_ok-variable.ensures.variable c.in_ok-variable.ensures.added c.add_two.ensures.added
+    bytes_carried (ty_view c.in_ok-array.array) (ty_view c.args.of.now) _ _ c.in_ok-variable.variable c.args.span (solved c.args.solver.now)
+    (solved c.fresh_variable.new.solver) (solved c.add_two.new.solver) c.add_two.result c.in_ok-array.ensures (search (rules, layers))
+    (search (rules, layers)) c.in_ok-variable.ensures.variable c.in_ok-variable.ensures.added c.add_two.ensures.added

@@ -19,10 +19,12 @@ returns-in-Unknown-clause-taken c ss =
 pub returns-in-Array-clause-taken : goal.returns-in-Array-clause-taken
 returns-in-Array-clause-taken c ss =
     let t = ty_view c.args.of.now in
-    taken_one ss (asking (condition (key t)) c.args.span) t array_of (solved c.args.solver.now) (solved c.add_byte_array.new.solver) c.add_byte_array.result refl c.in-Array.ensures.head c.add_byte_array.ensures.added
+    taken_one ss (asking (condition (key t)) c.args.span) t array_of (solved c.args.solver.now) (solved c.add_byte_array.new.solver) c.add_byte_array.result
+    refl c.in-Array.ensures.head c.add_byte_array.ensures.added
 
 pub returns-in_default-clause-taken : goal.returns-in_default-clause-taken
 returns-in_default-clause-taken c ss =
     let t = ty_view c.args.of.now in
     silent_one ss (asking (condition (key t)) c.args.span) t (solved c.args.solver.now) refl
-    (quiet_key ss t (variables c.args.solver.now) c.known_head.result (head (on t (solution c.args.solver.now))) c.known_head.ensures.head c.in_default.not-Unknown c.in_default.not-Array)
+    (quiet_key ss t (variables c.args.solver.now) c.known_head.result (head (on t (solution c.args.solver.now))) c.known_head.ensures.head
+    c.in_default.not-Unknown c.in_default.not-Array)

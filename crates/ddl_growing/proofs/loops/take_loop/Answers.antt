@@ -14,20 +14,24 @@ use Rattle.ddl_growing.proofs.loops.take_loop.Goals as goal
 pub returns-in-Unknown-clause-taken : goal.returns-in-Unknown-clause-taken
 returns-in-Unknown-clause-taken c ss =
     let t = ty_view c.args.form.over.now in
-    waits_one ss (asking (condition (loops t (ty_view c.args.form.key.now) (ty_view c.args.form.value.now))) c.args.span) t (solved c.args.solver.now) refl c.in-Unknown.ensures.head
+    waits_one ss (asking (condition (loops t (ty_view c.args.form.key.now) (ty_view c.args.form.value.now))) c.args.span) t (solved c.args.solver.now) refl
+    c.in-Unknown.ensures.head
 
 pub returns-in-Array-clause-taken : goal.returns-in-Array-clause-taken
 returns-in-Array-clause-taken c ss =
     let t = ty_view c.args.form.over.now in
-    taken_one ss (asking (condition (loops t (ty_view c.args.form.key.now) (ty_view c.args.form.value.now))) c.args.span) t array_of (solved c.args.solver.now) (solved c.add_array_turns.new.solver) c.add_array_turns.result refl c.in-Array.ensures.head c.add_array_turns.ensures.added
+    taken_one ss (asking (condition (loops t (ty_view c.args.form.key.now) (ty_view c.args.form.value.now))) c.args.span) t array_of (solved c.args.solver.now)
+    (solved c.add_array_turns.new.solver) c.add_array_turns.result refl c.in-Array.ensures.head c.add_array_turns.ensures.added
 
 pub returns-in-Map-clause-taken : goal.returns-in-Map-clause-taken
 returns-in-Map-clause-taken c ss =
     let t = ty_view c.args.form.over.now in
-    taken_one ss (asking (condition (loops t (ty_view c.args.form.key.now) (ty_view c.args.form.value.now))) c.args.span) t map_of (solved c.args.solver.now) (solved c.add_map_turns.new.solver) c.add_map_turns.result refl c.in-Map.ensures.head c.add_map_turns.ensures.added
+    taken_one ss (asking (condition (loops t (ty_view c.args.form.key.now) (ty_view c.args.form.value.now))) c.args.span) t map_of (solved c.args.solver.now)
+    (solved c.add_map_turns.new.solver) c.add_map_turns.result refl c.in-Map.ensures.head c.add_map_turns.ensures.added
 
 pub returns-in_default-clause-taken : goal.returns-in_default-clause-taken
 returns-in_default-clause-taken c ss =
     let t = ty_view c.args.form.over.now in
     silent_one ss (asking (condition (loops t (ty_view c.args.form.key.now) (ty_view c.args.form.value.now))) c.args.span) t (solved c.args.solver.now) refl
-    (quiet_loop ss t (ty_view c.args.form.key.now) (ty_view c.args.form.value.now) (variables c.args.solver.now) c.known_head.result (head (on t (solution c.args.solver.now))) c.known_head.ensures.head c.in_default.not-Unknown c.in_default.not-Array c.in_default.not-Map)
+    (quiet_loop ss t (ty_view c.args.form.key.now) (ty_view c.args.form.value.now) (variables c.args.solver.now) c.known_head.result
+    (head (on t (solution c.args.solver.now))) c.known_head.ensures.head c.in_default.not-Unknown c.in_default.not-Array c.in_default.not-Map)

@@ -10,5 +10,10 @@ use Rattle.ddl_growing.proofs.members.add_bits_member.Goals as goal
 
 pub add-requires : goal.add-requires
 add-requires c = record {
-  below = (bits_below c.args.shapes.now (variables c.args.solver.now) c.args.tagged c.args.sought.name.now c.args.number (ty_view c.in-Some.of.now) c.requires.shapes c.in-Some.ensures, c.requires.result_below, tt);
+  below = (
+    bits_below c.args.shapes.now (variables c.args.solver.now) c.args.tagged c.args.sought.name.now c.args.number (ty_view c.in-Some.of.now)
+        c.requires.shapes c.in-Some.ensures,
+    c.requires.result_below,
+    tt,
+  );
 }

@@ -11,7 +11,8 @@ use Rattle.ddl_judging.proofs.equality.can_be_equal.Goals as goal
 
 pub equate-requires-clause-left_below : goal.equate-requires-clause-left_below
 equate-requires-clause-left_below c =
-    below_more (ty_view c.args.left.now) c.above.result (variables c.in_ok-solver.solver) (omega (arith, c.above-count.ensures.least, c.in_ok-solver.ensures.variables)) c.above.ensures.below
+    below_more (ty_view c.args.left.now) c.above.result (variables c.in_ok-solver.solver)
+    (omega (arith, c.above-count.ensures.least, c.in_ok-solver.ensures.variables)) c.above.ensures.below
 
 pub returns : goal.returns
 returns c =

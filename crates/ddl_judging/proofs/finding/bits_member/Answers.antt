@@ -13,10 +13,14 @@ pub returns-then-bits-tagged : goal.returns-then-bits-tagged
 returns-then-bits-tagged c =
     let h : c.args.number < length c.args.shapes.now.bits.items = search rules in
     let e : c.index-bits.result.now ≡ get_or c.args.shapes.now.bits.items c.args.number c.index-bits.result.now = search rules in
-    bits_other c.args.tagged c.args.name.now c.args.shapes.now.bits.items c.args.number c.index-bits.result.now h e (tags_differ c.index-bits.result.now.tagged c.args.tagged c.if-bits-tagged.true)
+    bits_other c.args.tagged c.args.name.now c.args.shapes.now.bits.items c.args.number c.index-bits.result.now h e
+    (tags_differ c.index-bits.result.now.tagged c.args.tagged c.if-bits-tagged.true)
 
 pub returns : goal.returns
 returns c =
     let h : c.args.number < length c.args.shapes.now.bits.items = search rules in
     let e : c.index-bits.result.now ≡ get_or c.args.shapes.now.bits.items c.args.number c.index-bits.result.now = search rules in
-    subst (λ (z : Option Ty). MatchOption c.first_of.result (z ≡ None) (λ t. z ≡ Some (ty_view t.now))) (sym (bits_found c.args.tagged c.args.name.now c.args.shapes.now.bits.items c.args.number c.index-bits.result.now c.deref.result.now c.deref-2.result.now h e (tags_agree c.index-bits.result.now.tagged c.args.tagged c.if-bits-tagged.false) c.deref.ensures.value c.deref-2.ensures.value)) c.first_of.ensures
+    subst (λ (z : Option Ty). MatchOption c.first_of.result (z ≡ None) (λ t. z ≡ Some (ty_view t.now)))
+    (sym (bits_found c.args.tagged c.args.name.now c.args.shapes.now.bits.items c.args.number c.index-bits.result.now c.deref.result.now
+    c.deref-2.result.now h e (tags_agree c.index-bits.result.now.tagged c.args.tagged c.if-bits-tagged.false) c.deref.ensures.value
+    c.deref-2.ensures.value)) c.first_of.ensures

@@ -9,7 +9,8 @@ returns-then-eq c =
     let h : c.loop-i.i < length c.args.names.now = grind (arith, common_steps) in
     let k : c.loop-i.i < length c.args.types.now = grind (arith, common_steps) in
     let b : bytes_eq c.index-names-i.result c.args.name.now ≡ true = search rules in
-    member_at c.args.name.now c.args.names.now c.args.types.now c.loop-i.i c.index-names-i.result c.index-types-i.result h k c.index-names-i.is c.index-types-i.is b c.loop-i.invariant.differ
+    member_at c.args.name.now c.args.names.now c.args.types.now c.loop-i.i c.index-names-i.result c.index-types-i.result h k c.index-names-i.is
+    c.index-types-i.is b c.loop-i.invariant.differ
 
 pub returns : goal.returns
 returns c =

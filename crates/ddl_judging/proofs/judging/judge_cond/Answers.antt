@@ -26,7 +26,8 @@ pub returns-in-Key : goal.returns-in-Key
 returns-in-Key c = answer c.comparable.result (shapes_view c.args.shapes.now) (solution c.args.solver.now) c.args.cond.now _ c.in-Key.is c.comparable.ensures
 
 pub returns-in-Lossless : goal.returns-in-Lossless
-returns-in-Lossless c = answer c.lossless.result (shapes_view c.args.shapes.now) (solution c.args.solver.now) c.args.cond.now _ c.in-Lossless.is c.lossless.ensures
+returns-in-Lossless c = answer c.lossless.result (shapes_view c.args.shapes.now) (solution c.args.solver.now) c.args.cond.now _ c.in-Lossless.is
+    c.lossless.ensures
 
 pub returns-in-Cut : goal.returns-in-Cut
 returns-in-Cut c = answer c.cutting.result (shapes_view c.args.shapes.now) (solution c.args.solver.now) c.args.cond.now _ c.in-Cut.is c.cutting.ensures
@@ -39,10 +40,14 @@ returns-in-Cat c = answer c.joined.result (shapes_view c.args.shapes.now) (solut
 
 pub returns-in-Field : goal.returns-in-Field
 returns-in-Field c =
-    let P : List ℕ → Type 0 = λ x. IfOk c.has_field.result (λ v. verdict_view v ≡ has_field (shapes_view c.args.shapes.now) x (on (ty_view c.in-Field.of) (solution c.args.solver.now))) in
-    answer c.has_field.result (shapes_view c.args.shapes.now) (solution c.args.solver.now) c.args.cond.now _ c.in-Field.is (subst P c.get.ensures c.has_field.ensures)
+    let P : List ℕ → Type 0 = λ x. IfOk c.has_field.result (λ v.
+    verdict_view v ≡ has_field (shapes_view c.args.shapes.now) x (on (ty_view c.in-Field.of) (solution c.args.solver.now))) in
+    answer c.has_field.result (shapes_view c.args.shapes.now) (solution c.args.solver.now) c.args.cond.now _ c.in-Field.is
+    (subst P c.get.ensures c.has_field.ensures)
 
 pub returns-in-Tag : goal.returns-in-Tag
 returns-in-Tag c =
-    let P : List ℕ → Type 0 = λ x. IfOk c.has_tag.result (λ v. verdict_view v ≡ has_tag (shapes_view c.args.shapes.now) x (on (ty_view c.in-Tag.of) (solution c.args.solver.now))) in
-    answer c.has_tag.result (shapes_view c.args.shapes.now) (solution c.args.solver.now) c.args.cond.now _ c.in-Tag.is (subst P c.get-in-Tag.ensures c.has_tag.ensures)
+    let P : List ℕ → Type 0 = λ x. IfOk c.has_tag.result (λ v.
+    verdict_view v ≡ has_tag (shapes_view c.args.shapes.now) x (on (ty_view c.in-Tag.of) (solution c.args.solver.now))) in
+    answer c.has_tag.result (shapes_view c.args.shapes.now) (solution c.args.solver.now) c.args.cond.now _ c.in-Tag.is
+    (subst P c.get-in-Tag.ensures c.has_tag.ensures)

@@ -33,15 +33,19 @@ loop-first-preserved c =
     ap (λ k. k == 2 ^ 20) len in
     let there : next_piece (is_full c.loop-first.tokens.items) at c.in-Some.first.now c.loop-first.rest.now ≡ Ok (c.in_ok-found.found, n) =
     subst (λ b. next_piece b at c.in-Some.first.now c.loop-first.rest.now ≡ Ok (c.in_ok-found.found, n)) full c.in_ok-found.ensures.value in
-    let kept : c.keep.new.tokens.items ≡ with_token c.loop-first.tokens.items c.loop-first.place c.behind-end.result.at c.in_ok-found.found = c.in_ok-keep.ensures in
+    let kept : c.keep.new.tokens.items ≡ with_token c.loop-first.tokens.items c.loop-first.place c.behind-end.result.at c.in_ok-found.found =
+    c.in_ok-keep.ensures in
     record {
-      cut = cut_more text c.loop-first.rest.now c.loop-first.tokens.items c.keep.new.tokens.items c.loop-first.place c.behind-end.result.at c.in-Some.first.now n c.in_ok-found.found
+      cut = cut_more text c.loop-first.rest.now c.loop-first.tokens.items c.keep.new.tokens.items c.loop-first.place c.behind-end.result.at c.in-Some.first.now
+          n c.in_ok-found.found
           known.cut known.few known.left known.lines known.columns c.in-Some.ensures.item.3.0 (c.in-Some.ensures.item.3.1 0) there to kept;
-      few = rw kept (few_more c.loop-first.tokens.items c.loop-first.place c.behind-end.result.at c.in_ok-found.found known.few (λ h. c.in_ok-found.ensures.room (full ∙ h)));
+      few = rw kept (few_more c.loop-first.tokens.items c.loop-first.place c.behind-end.result.at c.in_ok-found.found known.few (λ h.
+          c.in_ok-found.ensures.room (full ∙ h)));
       left = c.split_at.ensures.back ∙ ap (drop n) known.left ∙ drop-drop n at text ∙ ap (λ k. drop k text) (sym to);
       within = omega (arith, to, c.in_ok-found.ensures.within, ap length known.left, length-drop at text);
       lines = rw to (line_more text c.split_at.result.0.now at n c.loop-first.place.line c.behind-end.result.line known.lines piece c.behind-end.ensures.line);
-      columns = rw to (column_more text c.split_at.result.0.now at n c.loop-first.place.column c.behind-end.result.column known.columns piece c.behind-end.ensures.column);
+      columns = rw to (column_more text c.split_at.result.0.now at n c.loop-first.place.column c.behind-end.result.column known.columns piece
+          c.behind-end.ensures.column);
       line_fits = c.behind-end.ensures.line_fits;
       column_fits = c.behind-end.ensures.column_fits;
     }
@@ -57,7 +61,8 @@ returns-in_err-found-clause-error c =
     let full : (c.len-full.result == 2 ^ 20) ≡ is_full tokens =
     let len : c.len-full.result ≡ length tokens = search rules in
     ap (λ k. k == 2 ^ 20) len in
-    let there : Gives (next_piece (is_full tokens) at first rest) (Err c.in_err-found.field-0.0) = subst (λ b. Gives (next_piece b at first rest) (Err c.in_err-found.field-0.0)) full c.in_err-found.ensures.value in
+    let there : Gives (next_piece (is_full tokens) at first rest) (Err c.in_err-found.field-0.0) =
+    subst (λ b. Gives (next_piece b at first rest) (Err c.in_err-found.field-0.0)) full c.in_err-found.ensures.value in
     let within : at < length text = omega (arith, c.in-Some.ensures.item.3.0, ap length known.left, length-drop at text) in
     let wrong = has_error text rest tokens at first c.in_err-found.field-0.0 known.cut within known.left (c.in-Some.ensures.item.3.1 0) there in
     search rules

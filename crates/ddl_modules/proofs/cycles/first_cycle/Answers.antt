@@ -23,7 +23,8 @@ pub returns-in-Some : goal.returns-in-Some
 returns-in-Some c =
     let P : List Row → Type 0 = λ rows. IsShortestCycle (lists_of rows) c.loop-unit.unit c.in-Some.rest.items in
     let found : IsShortestCycle (lists_of c.deref.result.now) c.loop-unit.unit c.in-Some.rest.items = rw c.in-Some.is at c.in_ok-rest.ensures in
-    first_found c.args.units.now c.in_ok-rows.rows.items c.in_ok-rows.ensures c.loop-unit.unit c.in-Some.rest.items (subst P c.deref.ensures.value found) c.loop-unit.invariant
+    first_found c.args.units.now c.in_ok-rows.rows.items c.in_ok-rows.ensures c.loop-unit.unit c.in-Some.rest.items (subst P c.deref.ensures.value found)
+    c.loop-unit.invariant
 
 pub returns : goal.returns
 returns c =

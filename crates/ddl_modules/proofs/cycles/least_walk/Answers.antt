@@ -12,7 +12,8 @@ bounds-rows-at c =
     let new = map (λ x. x.flags.items) c.pop.new.self.items in
     let count : vec_len c.levels.left ≡ suc (vec_len c.pop.new.self) = omega (arith, c.in-Some.ensures.cases) in
     row_within c.args.rows.now c.in-Some.below.flags.items c.levels.at
-    (some_up c.args.rows.now c.args.unit (vec_len c.args.lower) lower new c.in-Some.below.flags.items (vec_len c.levels.left) (vec_len c.pop.new.self) c.levels.at c.levels.walk.items
+    (some_up c.args.rows.now c.args.unit (vec_len c.args.lower) lower new c.in-Some.below.flags.items (vec_len c.levels.left) (vec_len c.pop.new.self)
+    c.levels.at c.levels.walk.items
     c.levels.invariant (flags_split c.levels.left.items c.pop.new.self.items c.in-Some.below c.in-Some.ensures.items) count)
 
 pub least_up-at-requires-clause-few : goal.least_up-at-requires-clause-few
@@ -20,7 +21,8 @@ least_up-at-requires-clause-few c =
     let lower = map (λ x. x.flags.items) c.levels.left.items in
     let new = map (λ x. x.flags.items) c.pop.new.self.items in
     let count : vec_len c.levels.left ≡ suc (vec_len c.pop.new.self) = omega (arith, c.in-Some.ensures.cases) in
-    let flags = flags_of c.args.rows.now c.args.unit (vec_len c.args.lower) lower new c.in-Some.below.flags.items (vec_len c.levels.left) (vec_len c.pop.new.self) c.levels.at c.levels.walk.items
+    let flags = flags_of c.args.rows.now c.args.unit (vec_len c.args.lower) lower new c.in-Some.below.flags.items (vec_len c.levels.left)
+    (vec_len c.pop.new.self) c.levels.at c.levels.walk.items
     c.levels.invariant (flags_split c.levels.left.items c.pop.new.self.items c.in-Some.below c.in-Some.ensures.items) count in
     omega (arith, ap length (c.deref-in-Some.ensures.value ∙ flags), length-level c.args.rows.now c.args.unit (vec_len c.pop.new.self), c.requires.few)
 
@@ -30,7 +32,8 @@ least_up-at-requires-clause-some c =
     let new = map (λ x. x.flags.items) c.pop.new.self.items in
     let count : vec_len c.levels.left ≡ suc (vec_len c.pop.new.self) = omega (arith, c.in-Some.ensures.cases) in
     let up : any_up c.in-Some.below.flags.items (row c.args.rows.now c.levels.at) ≡ true =
-    some_up c.args.rows.now c.args.unit (vec_len c.args.lower) lower new c.in-Some.below.flags.items (vec_len c.levels.left) (vec_len c.pop.new.self) c.levels.at c.levels.walk.items
+    some_up c.args.rows.now c.args.unit (vec_len c.args.lower) lower new c.in-Some.below.flags.items (vec_len c.levels.left) (vec_len c.pop.new.self)
+    c.levels.at c.levels.walk.items
     c.levels.invariant (flags_split c.levels.left.items c.pop.new.self.items c.in-Some.below c.in-Some.ensures.items) count in
     let within : c.levels.at < length c.args.rows.now = row_within c.args.rows.now c.in-Some.below.flags.items c.levels.at up in
     let units : c.deref.result.now ≡ row c.args.rows.now c.levels.at =
@@ -44,19 +47,23 @@ levels-preserved c =
     let count : vec_len c.levels.left ≡ suc (vec_len c.pop.new.self) = omega (arith, c.in-Some.ensures.cases) in
     let split = flags_split c.levels.left.items c.pop.new.self.items c.in-Some.below c.in-Some.ensures.items in
     let up : any_up c.in-Some.below.flags.items (row c.args.rows.now c.levels.at) ≡ true =
-    some_up c.args.rows.now c.args.unit (vec_len c.args.lower) lower new c.in-Some.below.flags.items (vec_len c.levels.left) (vec_len c.pop.new.self) c.levels.at c.levels.walk.items
+    some_up c.args.rows.now c.args.unit (vec_len c.args.lower) lower new c.in-Some.below.flags.items (vec_len c.levels.left) (vec_len c.pop.new.self)
+    c.levels.at c.levels.walk.items
     c.levels.invariant split count in
     let within : c.levels.at < length c.args.rows.now = row_within c.args.rows.now c.in-Some.below.flags.items c.levels.at up in
     let units : c.deref.result.now ≡ row c.args.rows.now c.levels.at =
     c.deref.ensures.value ∙ sym (row_at c.args.rows.now c.levels.at c.index-rows-at.result within) in
     let P : List ℕ → Type 0 = λ us. IsLeastUp c.deref-in-Some.result.now us c.least_up-at.result in
     let Q : List Bool → Type 0 = λ fs. IsLeastUp fs (row c.args.rows.now c.levels.at) c.least_up-at.result in
-    let least : IsLeastUp c.in-Some.below.flags.items (row c.args.rows.now c.levels.at) c.least_up-at.result = subst Q c.deref-in-Some.ensures.value (subst P units c.least_up-at.ensures) in
+    let least : IsLeastUp c.in-Some.below.flags.items (row c.args.rows.now c.levels.at) c.least_up-at.result =
+    subst Q c.deref-in-Some.ensures.value (subst P units c.least_up-at.ensures) in
     rw c.in_ok-push.ensures.items
-    (descended c.args.rows.now c.args.unit (vec_len c.args.lower) lower new c.in-Some.below.flags.items (vec_len c.levels.left) (vec_len c.pop.new.self) c.levels.at c.levels.walk.items
+    (descended c.args.rows.now c.args.unit (vec_len c.args.lower) lower new c.in-Some.below.flags.items (vec_len c.levels.left) (vec_len c.pop.new.self)
+    c.levels.at c.levels.walk.items
     c.levels.invariant split count c.least_up-at.result least)
 
 pub returns : goal.returns
 returns c =
     let none = MatchOption-at_none _ _ c.in_default.is c.pop.ensures.cases in
-    descent_done c.args.rows.now c.args.unit (vec_len c.args.lower) (map (λ x. x.flags.items) c.levels.left.items) (vec_len c.levels.left) c.levels.at c.levels.walk.items c.levels.invariant none.0
+    descent_done c.args.rows.now c.args.unit (vec_len c.args.lower) (map (λ x. x.flags.items) c.levels.left.items) (vec_len c.levels.left) c.levels.at
+    c.levels.walk.items c.levels.invariant none.0

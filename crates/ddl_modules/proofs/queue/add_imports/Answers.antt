@@ -14,11 +14,14 @@ loop-import-preserved c =
       few = c.in_ok-place.ensures.few;
       places = rw (c.in_ok-push.ensures.items, c.in_ok-place.ensures.added, c.in_ok-place.ensures.place)
           (places_step (places c.args.names.now.items (imported c.args.imports.now)) c.loop-import.places.items c.loop-import.names.items
-          (drop c.loop-import.import-index c.args.imports.now) c.import-item.result (drop (c.loop-import.import-index + 1) c.args.imports.now) rest c.loop-import.invariant.places);
+          (drop c.loop-import.import-index c.args.imports.now) c.import-item.result (drop (c.loop-import.import-index + 1) c.args.imports.now) rest
+          c.loop-import.invariant.places);
       names = rw c.in_ok-place.ensures.added
           (names_step (with_names c.args.names.now.items (imported c.args.imports.now)) c.loop-import.names.items
-          (drop c.loop-import.import-index c.args.imports.now) c.import-item.result (drop (c.loop-import.import-index + 1) c.args.imports.now) rest c.loop-import.invariant.names);
+          (drop c.loop-import.import-index c.args.imports.now) c.import-item.result (drop (c.loop-import.import-index + 1) c.args.imports.now) rest
+          c.loop-import.invariant.names);
       room = rw c.in_ok-place.ensures.added
           (beyond_step (beyond c.args.names.now.items c.args.imports.now) c.loop-import.names.items
-          (drop c.loop-import.import-index c.args.imports.now) c.import-item.result (drop (c.loop-import.import-index + 1) c.args.imports.now) rest few c.loop-import.invariant.room);
+          (drop c.loop-import.import-index c.args.imports.now) c.import-item.result (drop (c.loop-import.import-index + 1) c.args.imports.now) rest few
+          c.loop-import.invariant.room);
     }

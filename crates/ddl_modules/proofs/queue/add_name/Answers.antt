@@ -5,14 +5,16 @@ use Rattle.ddl_modules.proofs.queue.add_name.Goals as goal
 
 pub returns-then-place-len-clause-added : goal.returns-then-place-len-clause-added
 returns-then-place-len-clause-added c =
-    let here : c.place-place.result ≡ place c.args.names.now.items c.args.name.now.text = rw c.get.ensures at (rw c.deref.ensures.value at c.place-place.ensures.place) in
+    let here : c.place-place.result ≡ place c.args.names.now.items c.args.name.now.text =
+    rw c.get.ensures at (rw c.deref.ensures.value at c.place-place.ensures.place) in
     let long : length c.args.names.now.items ≡ vec_len c.args.names.now = rw c.deref.ensures.value at c.deref.ensures.len in
     let within : place c.args.names.now.items c.args.name.now.text < length c.args.names.now.items = omega arith in
     sym (with_name-old c.args.names.now.items c.args.name.now.text within)
 
 pub returns-then-place-eq-MOST_NAMES-clause-full : goal.returns-then-place-eq-MOST_NAMES-clause-full
 returns-then-place-eq-MOST_NAMES-clause-full c =
-    let here : c.place-place.result ≡ place c.args.names.now.items c.args.name.now.text = rw c.get.ensures at (rw c.deref.ensures.value at c.place-place.ensures.place) in
+    let here : c.place-place.result ≡ place c.args.names.now.items c.args.name.now.text =
+    rw c.get.ensures at (rw c.deref.ensures.value at c.place-place.ensures.place) in
     let within : c.place-place.result ≤ length c.args.names.now.items = rw c.deref.ensures.value at c.place-place.ensures.within in
     let long : length c.args.names.now.items ≡ vec_len c.args.names.now = rw c.deref.ensures.value at c.deref.ensures.len in
     let full : length c.args.names.now.items ≡ 257 = omega arith in
@@ -27,7 +29,8 @@ overflow_cast-result-2 c =
 
 pub returns-clause-added : goal.returns-clause-added
 returns-clause-added c =
-    let here : c.place-place.result ≡ place c.args.names.now.items c.args.name.now.text = rw c.get.ensures at (rw c.deref.ensures.value at c.place-place.ensures.place) in
+    let here : c.place-place.result ≡ place c.args.names.now.items c.args.name.now.text =
+    rw c.get.ensures at (rw c.deref.ensures.value at c.place-place.ensures.place) in
     let long : length c.args.names.now.items ≡ vec_len c.args.names.now = rw c.deref.ensures.value at c.deref.ensures.len in
     let new : length c.args.names.now.items ≤ place c.args.names.now.items c.args.name.now.text = omega arith in
     let name : c.in_ok-of-2.field-0 ≡ c.args.name.now.text = c.in_ok-of-2.ensures ∙ c.get-2.ensures in

@@ -30,5 +30,6 @@ returns-in_err-add_unit-clause-none c =
 pub returns-clause-begun : goal.returns-clause-begun
 returns-clause-begun c =
     let added = c.in_ok-add_unit.ensures.added in
-    begun c.args.root.now c.in_ok-name.name (record { names = c.in_ok-names.names; units = c.new.result; length = 0 }) c.add_unit.new.loading c.in_ok-tree.tree added.0
+    begun c.args.root.now c.in_ok-name.name (record { names = c.in_ok-names.names; units = c.new.result; length = 0 }) c.add_unit.new.loading c.in_ok-tree.tree
+    added.0
     c.in_ok-name.ensures c.new.ensures.items c.in_ok-names.ensures.names refl c.in_ok-tree.ensures.tree added.1 c.in_ok-add_unit.ensures.length

@@ -9,7 +9,8 @@ turns-init g c = progress-begun (g.F.Files.state c.args.files.now) c.args.root.n
 pub turns-preserved : goal.turns-preserved
 turns-preserved g c =
     let unread : vec_len c.turns.loading.units < vec_len c.turns.loading.names = omega (arith, c.turns-test.true) in
-    progress-more (g.F.Files.state c.args.files.now) (g.F.Files.state c.turns.files) (g.F.Files.state c.load_next.new.files) c.args.root.now c.turns.loading c.load_next.new.loading
+    progress-more (g.F.Files.state c.args.files.now) (g.F.Files.state c.turns.files) (g.F.Files.state c.load_next.new.files) c.args.root.now c.turns.loading
+    c.load_next.new.loading
     c.turns.invariant unread c.in_ok-load_next.ensures.later c.in_ok-load_next.ensures.taken
 
 pub turns-smaller : goal.turns-smaller
@@ -26,7 +27,8 @@ returns-in_err-loading-clause-none g c =
 pub returns-in_err-load_next-clause-none : goal.returns-in_err-load_next-clause-none
 returns-in_err-load_next-clause-none g c =
     let p = err_from_is_err_and c.from_residual-in_err-load_next.result c.from_residual-in_err-load_next.ensures.1 in
-    rw (p.1, p.2) (progress-failed (g.F.Files.state c.args.files.now) (g.F.Files.state c.turns.files) (g.F.Files.state c.load_next.new.files) c.args.root.now c.turns.loading c.in_err-load_next.field-0.0
+    rw (p.1, p.2) (progress-failed (g.F.Files.state c.args.files.now) (g.F.Files.state c.turns.files) (g.F.Files.state c.load_next.new.files) c.args.root.now
+    c.turns.loading c.in_err-load_next.field-0.0
     c.turns.invariant c.in_err-load_next.ensures.later c.in_err-load_next.ensures.none)
 
 pub returns-clause-read : goal.returns-clause-read

@@ -10,7 +10,8 @@ returns-in_err-add_unit-clause-none g c =
     rw (p.1, p.2) (inr (
       c.in_ok-parsed.parsed.length,
       c.in_ok-parsed.parsed.tree,
-      tree_at (g.F.Files.state c.read_tree.new.files) c.args.file.now c.len-number.result (length c.args.loading.now.units.items) c.args.loading.now.length c.in_ok-parsed.parsed.length c.in_ok-parsed.parsed.tree number c.in_ok-parsed.ensures.tree,
+      tree_at (g.F.Files.state c.read_tree.new.files) c.args.file.now c.len-number.result (length c.args.loading.now.units.items) c.args.loading.now.length
+          c.in_ok-parsed.parsed.length c.in_ok-parsed.parsed.tree number c.in_ok-parsed.ensures.tree,
       c.in_err-add_unit.ensures.full,
     ))
 
@@ -18,5 +19,6 @@ pub returns-clause-taken : goal.returns-clause-taken
 returns-clause-taken g c =
     let number : c.len-number.result ≡ length c.args.loading.now.units.items = c.len-number.ensures ∙ c.args.loading.now.units.ok.0 in
     let added = c.in_ok-add_unit.ensures.added in
-    takes_file (g.F.Files.state c.read_tree.new.files) c.args.file.now c.args.name c.len-number.result c.args.loading.now c.add_unit.new.loading c.in_ok-parsed.parsed.tree c.in_ok-parsed.parsed.length
+    takes_file (g.F.Files.state c.read_tree.new.files) c.args.file.now c.args.name c.len-number.result c.args.loading.now c.add_unit.new.loading
+    c.in_ok-parsed.parsed.tree c.in_ok-parsed.parsed.length
     added.0 number added.1 c.in_ok-parsed.ensures.tree c.in_ok-add_unit.ensures.length

@@ -10,4 +10,5 @@ loop-unit-preserved c =
     let same : (b : ℕ) → has row.units.items b ≡ has c.unit-item.result.imports.items b =
     λ b. c.in_ok-distinct.ensures b ∙ ap (λ (l : List ℕ). has l b) c.deref.ensures.value in
     rw c.in_ok-push.ensures.items
-    (rows_more c.args.units.now c.loop-unit.rows.items c.loop-unit.unit-index c.unit-item.result row c.loop-unit-test.true c.unit-item.is c.loop-unit.invariant same)
+    (rows_more c.args.units.now c.loop-unit.rows.items c.loop-unit.unit-index c.unit-item.result row c.loop-unit-test.true c.unit-item.is c.loop-unit.invariant
+    same)

@@ -23,7 +23,8 @@ returns-in_err-take_next-clause-found c =
     let rest : List Finding = flat_map (decl_findings site) (map decl_view (drop (i + 1) ds)) in
     let left : List Finding = flat_map (decl_findings site) (map decl_view (drop i ds)) in
     let next : left ≡ decl_findings site (decl_view d) ++ rest = next_decl site ds i d c.decl-item.is c.loop-decl-test.true in
-    let same : decl_findings (site_view here.outer) (decl_view d) ≡ decl_findings site (decl_view d) = ap (λ (o : Outer). decl_findings (site_view o) (decl_view d)) c.loop-decl.invariant.here in
+    let same : decl_findings (site_view here.outer) (decl_view d) ≡ decl_findings site (decl_view d) =
+    ap (λ (o : Outer). decl_findings (site_view o) (decl_view d)) c.loop-decl.invariant.here in
     let first : IsFirst all c.in_err-take_next.field-0.0 =
     refused all (decl_findings site (decl_view d)) rest left w.uses.items here.uses.items c.in_err-take_next.field-0.0
     c.loop-decl.invariant.left next (subst (λ (fs : List Finding). IsFirst fs c.in_err-take_next.field-0.0) same c.in_err-take_next.ensures.found) in
@@ -41,9 +42,11 @@ loop-decl-preserved c =
     let rest : List Finding = flat_map (decl_findings site) (map decl_view (drop (i + 1) ds)) in
     let left : List Finding = flat_map (decl_findings site) (map decl_view (drop i ds)) in
     let next : left ≡ decl_findings site (decl_view d) ++ rest = next_decl site ds i d c.decl-item.is c.loop-decl-test.true in
-    let same : decl_findings (site_view here.outer) (decl_view d) ≡ decl_findings site (decl_view d) = ap (λ (o : Outer). decl_findings (site_view o) (decl_view d)) c.loop-decl.invariant.here in
+    let same : decl_findings (site_view here.outer) (decl_view d) ≡ decl_findings site (decl_view d) =
+    ap (λ (o : Outer). decl_findings (site_view o) (decl_view d)) c.loop-decl.invariant.here in
     let found = c.in_ok-take_next.ensures.found in
-    let added : c.take_next.new.walk.uses.items ≡ here.uses.items ++ all_uses (decl_findings site (decl_view d)) = found.1 ∙ ap (λ fs. here.uses.items ++ all_uses fs) same in
+    let added : c.take_next.new.walk.uses.items ≡ here.uses.items ++ all_uses (decl_findings site (decl_view d)) = found.1
+    ∙ ap (λ fs. here.uses.items ++ all_uses fs) same in
     record {
       left = done all (decl_findings site (decl_view d)) rest left w.uses.items here.uses.items c.take_next.new.walk.uses.items c.loop-decl.invariant.left next
           (ap first_refusal (sym same) ∙ found.0) added;

@@ -12,11 +12,13 @@ loop-decl-preserved c =
     let steps : into_iter_items c.loop-decl.decl-iterator ≡ c.in-Some.decl ∷ into_iter_items c.next.new.self = c.in-Some.ensures.steps.0 in
     record {
       sized = (let was = c.loop-decl.invariant.sized in let gone = c.in-Some.ensures.steps.1 in let short = ap length steps in omega arith);
-      rest = decl_kept c.args.unit c.in-Some.decl (into_iter_items c.next.new.self) (into_iter_items c.loop-decl.decl-iterator) (map info_view c.loop-decl.kept.items)
+      rest = decl_kept c.args.unit c.in-Some.decl (into_iter_items c.next.new.self) (into_iter_items c.loop-decl.decl-iterator)
+          (map info_view c.loop-decl.kept.items)
           (map info_view c.keep_decl.new.kept.items) _ steps c.in_ok-keep_decl.ensures.decl c.loop-decl.invariant.rest;
       room = (let was = c.loop-decl.invariant.room in
           let short = ap length steps in
-          let long = more_kept c.loop-decl.kept.items c.keep_decl.new.kept.items (info c.args.unit (decl_view c.in-Some.decl) ∷ []) c.in_ok-keep_decl.ensures.decl in omega arith);
+          let long = more_kept c.loop-decl.kept.items c.keep_decl.new.kept.items (info c.args.unit (decl_view c.in-Some.decl) ∷ [])
+          c.in_ok-keep_decl.ensures.decl in omega arith);
       firsts = c.in_ok-keep_decl.ensures.firsts;
     }
 

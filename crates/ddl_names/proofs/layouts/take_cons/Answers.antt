@@ -40,6 +40,7 @@ loop-con-preserved c =
     done all (again before x ++ bits_findings site (con_view k).bits) (con_findings site (before ++ x ∷ []) (map con_view (drop (i + 1) cs)))
     (con_findings site before (map con_view (drop i cs))) c.args.uses.now.items c.loop-con.uses.items c.take_con.new.uses.items
     c.loop-con.invariant.0 (next_con site before cs i k c.con-item.is c.loop-con-test.true) found.0 found.1 in (
-      subst (λ (ns : List Name). Leaves all c.args.uses.now.items (con_findings site ns (map con_view (drop (i + 1) cs))) c.take_con.new.uses.items) (sym c.in_ok-take_con.ensures.seen) left,
+      subst (λ (ns : List Name). Leaves all c.args.uses.now.items (con_findings site ns (map con_view (drop (i + 1) cs))) c.take_con.new.uses.items)
+          (sym c.in_ok-take_con.ensures.seen) left,
       c.in_ok-take_con.ensures.sound,
     )

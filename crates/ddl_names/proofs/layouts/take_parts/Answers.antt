@@ -27,10 +27,12 @@ returns-in_err-take_part_type c =
     let rest : List Finding = part_findings site (before ++ part_names p) (map part_view (drop (i + 1) ps)) in
     let left : List Finding = part_findings site before (map part_view (drop i ps)) in
     let next : left ≡ f ++ g ++ rest =
-    next_part site before ps i c.part-item.result c.part-item.is c.loop-part-test.true ∙ ap (λ (t : Scope). f ++ typed_findings site (part_type p) t ++ rest) (sym c.new-scope.ensures.empty) in
+    next_part site before ps i c.part-item.result c.part-item.is c.loop-part-test.true
+    ∙ ap (λ (t : Scope). f ++ typed_findings site (part_type p) t ++ rest) (sym c.new-scope.ensures.empty) in
     let once = c.in_ok-once_named.ensures.found in
     let mid : Leaves all c.args.uses.now.items (g ++ rest) c.loop-part.uses.items =
-    done all f (g ++ rest) left c.args.uses.now.items c.loop-part.uses.items c.loop-part.uses.items c.loop-part.invariant.0 (next ∙ append_assoc f g rest) once.0 (search (rules, once.1)) in
+    done all f (g ++ rest) left c.args.uses.now.items c.loop-part.uses.items c.loop-part.uses.items c.loop-part.invariant.0 (next
+    ∙ append_assoc f g rest) once.0 (search (rules, once.1)) in
     let first : IsFirst all c.in_err-take_part_type.field-0.0 =
     refused all g rest (g ++ rest) c.args.uses.now.items c.loop-part.uses.items c.in_err-take_part_type.field-0.0 mid refl c.in_err-take_part_type.ensures in
     search (rules, first)
@@ -48,13 +50,16 @@ loop-part-preserved c =
     let rest : List Finding = part_findings site (before ++ part_names p) (map part_view (drop (i + 1) ps)) in
     let left : List Finding = part_findings site before (map part_view (drop i ps)) in
     let next : left ≡ f ++ g ++ rest =
-    next_part site before ps i c.part-item.result c.part-item.is c.loop-part-test.true ∙ ap (λ (t : Scope). f ++ typed_findings site (part_type p) t ++ rest) (sym c.new-scope.ensures.empty) in
+    next_part site before ps i c.part-item.result c.part-item.is c.loop-part-test.true
+    ∙ ap (λ (t : Scope). f ++ typed_findings site (part_type p) t ++ rest) (sym c.new-scope.ensures.empty) in
     let once = c.in_ok-once_named.ensures.found in
     let typed = c.in_ok-take_part_type.ensures in
     let mid : Leaves all c.args.uses.now.items (g ++ rest) c.loop-part.uses.items =
-    done all f (g ++ rest) left c.args.uses.now.items c.loop-part.uses.items c.loop-part.uses.items c.loop-part.invariant.0 (next ∙ append_assoc f g rest) once.0 (search (rules, once.1)) in
+    done all f (g ++ rest) left c.args.uses.now.items c.loop-part.uses.items c.loop-part.uses.items c.loop-part.invariant.0 (next
+    ∙ append_assoc f g rest) once.0 (search (rules, once.1)) in
     let end : Leaves all c.args.uses.now.items rest c.take_part_type.new.uses.items =
     done all g rest (g ++ rest) c.args.uses.now.items c.loop-part.uses.items c.take_part_type.new.uses.items mid refl typed.0 typed.1 in (
-      subst (λ (ns : List Name). Leaves all c.args.uses.now.items (part_findings site ns (map part_view (drop (i + 1) ps))) c.take_part_type.new.uses.items) (sym c.in_ok-once_named.ensures.seen) end,
+      subst (λ (ns : List Name). Leaves all c.args.uses.now.items (part_findings site ns (map part_view (drop (i + 1) ps))) c.take_part_type.new.uses.items)
+          (sym c.in_ok-once_named.ensures.seen) end,
       c.in_ok-once_named.ensures.sound,
     )

@@ -25,7 +25,8 @@ returns-in_err-take_param c =
     let x = param_name (param_view p) in
     let all : List Finding = param_findings site c.args.kind [] s (map param_view ps) in
     let first : IsFirst all c.in_err-take_param.field-0.0 =
-    refused all (again before x ++ demand (may_take c.args.kind (param_kind (param_view p))) (WrongKind x.span) ++ typed_findings site (param_type (param_view p)) s)
+    refused all (again before x ++ demand (may_take c.args.kind (param_kind (param_view p))) (WrongKind x.span)
+    ++ typed_findings site (param_type (param_view p)) s)
     (param_findings site c.args.kind (before ++ x ∷ []) s (map param_view (drop (i + 1) ps)))
     (param_findings site c.args.kind before s (map param_view (drop i ps))) c.args.uses.now.items c.loop-param.uses.items c.in_err-take_param.field-0.0
     c.loop-param.invariant.0 (next_param site c.args.kind before s ps i p c.param-item.is c.loop-param-test.true) c.in_err-take_param.ensures.found in
@@ -42,11 +43,14 @@ loop-param-preserved c =
     let x = param_name (param_view p) in
     let all : List Finding = param_findings site c.args.kind [] s (map param_view ps) in
     let found = c.in_ok-take_param.ensures.found in
-    let left : Leaves all c.args.uses.now.items (param_findings site c.args.kind (before ++ x ∷ []) s (map param_view (drop (i + 1) ps))) c.take_param.new.uses.items =
-    done all (again before x ++ demand (may_take c.args.kind (param_kind (param_view p))) (WrongKind x.span) ++ typed_findings site (param_type (param_view p)) s)
+    let left : Leaves all c.args.uses.now.items (param_findings site c.args.kind (before ++ x ∷ []) s (map param_view (drop (i + 1) ps)))
+    c.take_param.new.uses.items =
+    done all (again before x ++ demand (may_take c.args.kind (param_kind (param_view p))) (WrongKind x.span)
+    ++ typed_findings site (param_type (param_view p)) s)
     (param_findings site c.args.kind (before ++ x ∷ []) s (map param_view (drop (i + 1) ps)))
     (param_findings site c.args.kind before s (map param_view (drop i ps))) c.args.uses.now.items c.loop-param.uses.items c.take_param.new.uses.items
     c.loop-param.invariant.0 (next_param site c.args.kind before s ps i p c.param-item.is c.loop-param-test.true) found.0 found.1 in (
-      subst (λ (ns : List Name). Leaves all c.args.uses.now.items (param_findings site c.args.kind ns s (map param_view (drop (i + 1) ps))) c.take_param.new.uses.items) (sym c.in_ok-take_param.ensures.seen) left,
+      subst (λ (ns : List Name). Leaves all c.args.uses.now.items (param_findings site c.args.kind ns s (map param_view (drop (i + 1) ps)))
+          c.take_param.new.uses.items) (sym c.in_ok-take_param.ensures.seen) left,
       c.in_ok-take_param.ensures.sound,
     )

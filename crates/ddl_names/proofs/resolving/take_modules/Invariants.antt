@@ -10,7 +10,10 @@ invariant-loop-place l =
     record {
       among : l.walk.outer.units.now ≡ l.units;
       named : AreNames (loaded l.units) l.walk.outer.names.items;
-      rest : first_refusal (findings_from (loaded l.units) l.place (loaded (drop l.place l.units))) ≡ first_refusal (findings_from (loaded l.units) 0 (loaded l.units));
-      taken : l.walk.uses.items ++ all_uses (findings_from (loaded l.units) l.place (loaded (drop l.place l.units))) ≡ all_uses (findings_from (loaded l.units) 0 (loaded l.units));
-      firsts : l.firsts.items ++ begins (length l.walk.uses.items) (uses_from (loaded l.units) l.place (loaded (drop l.place l.units))) ≡ begins 0 (uses_of_each (loaded l.units));
+      rest : first_refusal (findings_from (loaded l.units) l.place (loaded (drop l.place l.units)))
+          ≡ first_refusal (findings_from (loaded l.units) 0 (loaded l.units));
+      taken : l.walk.uses.items ++ all_uses (findings_from (loaded l.units) l.place (loaded (drop l.place l.units)))
+          ≡ all_uses (findings_from (loaded l.units) 0 (loaded l.units));
+      firsts : l.firsts.items ++ begins (length l.walk.uses.items) (uses_from (loaded l.units) l.place (loaded (drop l.place l.units)))
+          ≡ begins 0 (uses_of_each (loaded l.units));
     }

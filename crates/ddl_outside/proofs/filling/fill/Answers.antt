@@ -10,7 +10,8 @@ loop-done-preserved g c =
     let within : c.loop-done.done ≤ length c.loop-done.into = c.loop-done.invariant.within in
     let before : HasAt (g.F.Files.state c.read.new.self).held c.args.name.now c.args.at (take c.loop-done.done c.loop-done.into) =
     rw c.in-Got.ensures.later.held c.loop-done.invariant.filled in
-    let here : HasAt (g.F.Files.state c.read.new.self).held c.args.name.now (c.args.at + length (take c.loop-done.done c.loop-done.into)) (take c.in-Got.count c.read.new.into) =
+    let here : HasAt (g.F.Files.state c.read.new.self).held c.args.name.now (c.args.at + length (take c.loop-done.done c.loop-done.into))
+    (take c.in-Got.count c.read.new.into) =
     rw (length-take-le c.loop-done.done c.loop-done.into within) got.3 in
     record {
       later = Later-trans _ _ _ c.loop-done.invariant.later c.in-Got.ensures.later;

@@ -16,10 +16,12 @@ returns-in-Some c =
     (ap (λ (n : ℕ). let seen : Seen = record { length = file.thing.length; reach = n } in seen) reach)
 
 pub returns-in_default : goal.returns-in_default
-returns-in_default c = sym (place_none (λ f. f.thing) (asked_seen c.args.at c.args.count) c.args.seen.now c.args.name.now (sym c.place.ensures ∙ c.in_default.is)).1
+returns-in_default c = sym (place_none (λ f. f.thing) (asked_seen c.args.at c.args.count) c.args.seen.now c.args.name.now (sym c.place.ensures
+    ∙ c.in_default.is)).1
 
 pub offset_bounds-seen-found : goal.offset_bounds-seen-found
-offset_bounds-seen-found c = let within = place_within named_seen c.args.seen.now c.args.name.now c.in-Some.found (sym c.place.ensures ∙ c.in-Some.is) in search rules
+offset_bounds-seen-found c = let within = place_within named_seen c.args.seen.now c.args.name.now c.in-Some.found (sym c.place.ensures ∙ c.in-Some.is)
+    in search rules
 
 pub bounds-seen-found : goal.bounds-seen-found
 bounds-seen-found c = place_within named_seen c.args.seen.now c.args.name.now c.in-Some.found (sym c.place.ensures ∙ c.in-Some.is)

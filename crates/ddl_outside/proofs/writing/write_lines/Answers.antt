@@ -4,8 +4,10 @@ use Rattle.ddl_outside.proofs.writing.write_lines.Goals as goal
 
 pub returns-in-Failed : goal.returns-in-Failed
 returns-in-Failed g c =
-    let part : WritesPart (g.S.Sink.state c.loop-line.out) (g.S.Sink.state c.write_whole.new.out) c.line-item.result = rw c.get.ensures at c.in-Failed.ensures in
-    WritesPart-more _ _ _ _ _ _ _ (concat_at c.args.lines.now c.loop-line.line-index c.line-item.result c.loop-line-test.true c.line-item.is) c.loop-line.invariant part
+    let part : WritesPart (g.S.Sink.state c.loop-line.out) (g.S.Sink.state c.write_whole.new.out) c.line-item.result = rw c.get.ensures at c.in-Failed.ensures
+    in
+    WritesPart-more _ _ _ _ _ _ _ (concat_at c.args.lines.now c.loop-line.line-index c.line-item.result c.loop-line-test.true c.line-item.is)
+    c.loop-line.invariant part
 
 pub loop-line-preserved : goal.loop-line-preserved
 loop-line-preserved g c =

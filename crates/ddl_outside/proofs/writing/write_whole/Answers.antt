@@ -4,7 +4,8 @@ use Rattle.ddl_outside.proofs.SinkLemmas.{Writes-more, Writes-failed}
 use Rattle.ddl_outside.proofs.writing.write_whole.Goals as goal
 
 pub returns-in-Failed : goal.returns-in-Failed
-returns-in-Failed g c = Writes-failed _ _ _ c.loop-done.done c.args.piece.now c.loop-done-test.true c.loop-done.invariant.written c.in-Failed.ensures.0 c.in-Failed.ensures.1
+returns-in-Failed g c = Writes-failed _ _ _ c.loop-done.done c.args.piece.now c.loop-done-test.true c.loop-done.invariant.written c.in-Failed.ensures.0
+    c.in-Failed.ensures.1
 
 pub loop-done-preserved : goal.loop-done-preserved
 loop-done-preserved g c =

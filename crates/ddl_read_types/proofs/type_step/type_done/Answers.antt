@@ -8,5 +8,6 @@ use Rattle.ddl_read_types.proofs.type_step.type_done.Goals as goal
 
 pub close_type-requires : goal.close_type-requires
 close_type-requires c =
-    let at : height (frame_view c.in-Some.frame ∷ forms c.pop.new.self) c.loop-frame.part.deep ≤ 400 = subst (λ z. height z c.loop-frame.part.deep ≤ 400) c.in-Some.ensures c.loop-frame.invariant.shallow in
+    let at : height (frame_view c.in-Some.frame ∷ forms c.pop.new.self) c.loop-frame.part.deep ≤ 400 =
+    subst (λ z. height z c.loop-frame.part.deep ≤ 400) c.in-Some.ensures c.loop-frame.invariant.shallow in
     omega (arith, height_most (forms c.pop.new.self) (around (frame_view c.in-Some.frame) c.loop-frame.part.deep))

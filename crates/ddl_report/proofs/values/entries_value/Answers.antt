@@ -13,5 +13,6 @@ returns c =
       | inr h ↦ entry_list-no_values keys.items values.items (sym values.ok.0 ∙ h.1.0)
     ] in
     let made = map view c.loop-key.entries.items in
-    let all : made ≡ entry_list c.args.keys.items c.args.values.items = sym (append-nil made) ∙ ap (λ rest. made ++ rest) (sym none_left) ∙ c.loop-key.invariant in
+    let all : made ≡ entry_list c.args.keys.items c.args.values.items = sym (append-nil made) ∙ ap (λ rest. made ++ rest) (sym none_left)
+    ∙ c.loop-key.invariant in
     ap items_of all ∙ sym (entries-list c.args.keys.items c.args.values.items)

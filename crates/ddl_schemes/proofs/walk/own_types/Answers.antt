@@ -15,8 +15,11 @@ pub returns-then-shape-eq0 : goal.returns-then-shape-eq0
 returns-then-shape-eq0 c =
     let h : c.args.number < length c.args.shapes.now.places.items = grind (arith, rules) in
     let i : c.in-Some.shape.now ≡ get_or c.args.shapes.now.places.items c.args.number c.in-Some.shape.now = search rules in
-    let e = place_found c.args.shapes.now.places.items c.args.number c.in-Some.shape.now h i in
-    (ap (λ (s : Shape). s.vars) e ∙ c.if-shape-eq0.true, ap (λ (ts : List program.Ty). map ty_view ts) c.deref-then-shape-eq0.ensures.value ∙ sym (ap (λ (s : Shape). s.types) e))
+    let e = place_found c.args.shapes.now.places.items c.args.number c.in-Some.shape.now h i in (
+      ap (λ (s : Shape). s.vars) e ∙ c.if-shape-eq0.true,
+      ap (λ (ts : List program.Ty). map ty_view ts) c.deref-then-shape-eq0.ensures.value
+          ∙ sym (ap (λ (s : Shape). s.types) e),
+    )
 
 pub returns-else-shape-eq0 : goal.returns-else-shape-eq0
 returns-else-shape-eq0 c =

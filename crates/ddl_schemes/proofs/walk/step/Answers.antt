@@ -17,4 +17,6 @@ returns-in_ok-push_all-in-Place-clause-stack c =
     let f : Sub = solution c.args.solver.now in
     let s : Seen = found_view c.args.found.now in
     let seen : ty_view c.args.t ≡ con (place c.in-Place.number) (tys_of (map ty_view c.in-Place.arguments.items)) = search (rules, layers) in
-    parts_first ss f s c.in-Place.number (map ty_view c.in-Place.arguments.items) (waiting c.args.stack.now.items) (waiting c.open.new.stack.items) (waiting c.push_all.new.stack.items) c.in_ok-open-in-Place.ensures.stack c.in_ok-push_all-in-Place.ensures ∙ ap (λ (t : Ty). behind ss f s t ++ waiting c.args.stack.now.items) (sym seen)
+    parts_first ss f s c.in-Place.number (map ty_view c.in-Place.arguments.items) (waiting c.args.stack.now.items) (waiting c.open.new.stack.items)
+    (waiting c.push_all.new.stack.items) c.in_ok-open-in-Place.ensures.stack c.in_ok-push_all-in-Place.ensures
+    ∙ ap (λ (t : Ty). behind ss f s t ++ waiting c.args.stack.now.items) (sym seen)

@@ -11,7 +11,8 @@ use Rattle.ddl_schemes.proofs.walk.walk.Given as goal
 -- whoever walks what is left has walked all
 abbrev pub invariant-loop-t : goal.invariant-loop-t
 invariant-loop-t l =
-    (z : Seen) → Walks (shapes_view l.shapes) (solution l.solver) (waiting l.stack.items) (found_view l.found) z → Walks (shapes_view l.shapes) (solution l.solver) (map (λ t. on t (solution l.solver)) (map ty_view l.roots)) unseen z
+    (z : Seen) → Walks (shapes_view l.shapes) (solution l.solver) (waiting l.stack.items) (found_view l.found) z
+    → Walks (shapes_view l.shapes) (solution l.solver) (map (λ t. on t (solution l.solver)) (map ty_view l.roots)) unseen z
 
 abbrev pub decreases-loop-t : goal.decreases-loop-t
 decreases-loop-t l =

@@ -6,4 +6,5 @@ use Rattle.ddl_show.specs.Writes.{closed}
 use Rattle.ddl_show.proofs.decls.put_params.Given as goal
 
 abbrev pub invariant-loop-param : goal.invariant-loop-param
-invariant-loop-param l = (rest : List Tok) → closed l.initial.text.items (print_params (map param_view l.params) rest) ≡ closed l.text.items (print_params (map param_view (drop l.param-index l.params)) rest)
+invariant-loop-param l = (rest : List Tok) → closed l.initial.text.items (print_params (map param_view l.params) rest)
+    ≡ closed l.text.items (print_params (map param_view (drop l.param-index l.params)) rest)

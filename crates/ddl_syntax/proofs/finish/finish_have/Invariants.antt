@@ -6,7 +6,10 @@ use Rattle.ddl_reader.specs.Step.{finish_have}
 use Rattle.ddl_syntax.proofs.finish.finish_have.Given as goal
 
 abbrev pub invariant-loop-frame : goal.invariant-loop-frame
-invariant-loop-frame l = record { same : finish_have (forms l.stack) (found_view l.part) ≡ finish_have (forms l.fn.stack) (found_view l.fn.part); shallow : height (forms l.stack) l.part.deep ≤ 400 }
+invariant-loop-frame l = record {
+  same : finish_have (forms l.stack) (found_view l.part) ≡ finish_have (forms l.fn.stack) (found_view l.fn.part);
+  shallow : height (forms l.stack) l.part.deep ≤ 400;
+}
 
 abbrev pub decreases-loop-frame : goal.decreases-loop-frame
 decreases-loop-frame l = length (forms l.stack)

@@ -15,11 +15,14 @@ fits f fs gs n e h =
     omega (arith, height_most fs (around f n))
 
 pub close-requires : goal.close-requires
-close-requires c = fits (frame_view c.in-Some.frame) (forms c.pop.new.self) (forms c.loop-stack.stack) c.loop-stack.part.deep c.in-Some.ensures c.loop-stack.invariant.shallow
+close-requires c = fits (frame_view c.in-Some.frame) (forms c.pop.new.self) (forms c.loop-stack.stack) c.loop-stack.part.deep c.in-Some.ensures
+    c.loop-stack.invariant.shallow
 
 pub pass-requires : goal.pass-requires
 pass-requires c =
     let parts = subst (λ z. Closes (frame_view c.in-Some.frame) (found_view c.loop-stack.part) z) c.in-Open.is c.in_ok-whole.ensures in
     let deep : c.loop-stack.part.deep ≡ c.in-Open.part.deep = ap (λ (found : m.Found). found.deep) (sym parts.2) in
-    let at : around (frame_view c.in-Some.frame) c.loop-stack.part.deep ≤ 400 = fits (frame_view c.in-Some.frame) (forms c.pop.new.self) (forms c.loop-stack.stack) c.loop-stack.part.deep c.in-Some.ensures c.loop-stack.invariant.shallow in
+    let at : around (frame_view c.in-Some.frame) c.loop-stack.part.deep ≤ 400 =
+    fits (frame_view c.in-Some.frame) (forms c.pop.new.self) (forms c.loop-stack.stack) c.loop-stack.part.deep c.in-Some.ensures
+    c.loop-stack.invariant.shallow in
     subst (λ z. around z c.in-Open.part.deep ≤ 400) (sym parts.1) (subst (λ n. around (frame_view c.in-Some.frame) n ≤ 400) deep at)

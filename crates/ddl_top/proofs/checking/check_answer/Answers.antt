@@ -8,4 +8,5 @@ count_answer-requires g c = rw c.deref.ensures.value (few c.in-Ok.units.items c.
 
 pub returns-in-Err-clause-answer : goal.returns-in-Err-clause-answer
 returns-in-Err-clause-answer g c =
-    IfOk-check_refused c.args.root.now (g.F.Files.state c.args.files.now) (g.F.Files.state c.bound_modules.new.files) c.in-Err.refusal c.refusal_answer.result c.in-Err.ensures.refused c.refusal_answer.ensures
+    IfOk-check_refused c.args.root.now (g.F.Files.state c.args.files.now) (g.F.Files.state c.bound_modules.new.files) c.in-Err.refusal c.refusal_answer.result
+    c.in-Err.ensures.refused c.refusal_answer.ensures

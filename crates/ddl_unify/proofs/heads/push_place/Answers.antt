@@ -9,4 +9,5 @@ use Rattle.ddl_unify.proofs.heads.push_place.Goals as goal
 pub push_all-requires : goal.push_all-requires
 push_all-requires c =
     let e : ty_view c.args.right ≡ con (place c.in-Place.field-0) (tys_of (map ty_view c.in-Place.rs.items)) = grind (arith, layers) in
-    long_both (place c.args.number) (place c.in-Place.field-0) c.args.ls.items c.in-Place.rs.items (ap (alike (con (place c.args.number) (tys_of (map ty_view c.args.ls.items)))) (sym e) ∙ c.requires)
+    long_both (place c.args.number) (place c.in-Place.field-0) c.args.ls.items c.in-Place.rs.items
+    (ap (alike (con (place c.args.number) (tys_of (map ty_view c.args.ls.items)))) (sym e) ∙ c.requires)

@@ -15,22 +15,29 @@ pub stands-returns-in_ok-found-in-Place-clause-found : goal.stands-returns-in_ok
 stands-returns-in_ok-found-in-Place-clause-found r c =
     let f : t.Sub = solution (bounds c.args.trail.now) in
     let seen : ty_view c.args.t.now ≡ t.con (t.place c.in-Place.field-0) (tys_of (map ty_view c.deref-in-Place.result.now)) = grind (arith, layers) in
-    c.in_ok-found-in-Place.ensures.found ∙ sym (has_list (t.place c.in-Place.field-0) (map ty_view c.deref-in-Place.result.now) f c.args.v) ∙ ap (λ x. has (on x f) c.args.v) (sym seen)
+    c.in_ok-found-in-Place.ensures.found ∙ sym (has_list (t.place c.in-Place.field-0) (map ty_view c.deref-in-Place.result.now) f c.args.v)
+    ∙ ap (λ x. has (on x f) c.args.v) (sym seen)
 
 pub stands_behind-stands-requires : goal.stands_behind-stands-requires
-stands_behind-stands-requires r c =
-    (omega (arith, c.decreases, kept_less c.args.place.now c.args.trail.now c.args.n (ty_view c.in-Some.to.now) c.requires.kept c.in-Some.ensures), (c.requires.kept, c.requires.marks))
+stands_behind-stands-requires r c = (
+  omega (arith, c.decreases, kept_less c.args.place.now c.args.trail.now c.args.n (ty_view c.in-Some.to.now) c.requires.kept c.in-Some.ensures),
+  (c.requires.kept, c.requires.marks),
+)
 
 pub stands_in-stands-requires : goal.stands_in-stands-requires
-stands_in-stands-requires r c =
-    (omega (arith, c.decreases, weighed_at (cost (bounds c.args.trail.now)) c.args.ts.now c.loop-t.t-index c.t-item.result c.loop-t-test.true c.t-item.is), (c.requires.kept, c.loop-t.invariant.marks))
+stands_in-stands-requires r c = (
+  omega (arith, c.decreases, weighed_at (cost (bounds c.args.trail.now)) c.args.ts.now c.loop-t.t-index c.t-item.result c.loop-t-test.true c.t-item.is),
+  (c.requires.kept, c.loop-t.invariant.marks),
+)
 
 pub stands_in-returns-then-branch-clause-found : goal.stands_in-returns-then-branch-clause-found
 stands_in-returns-then-branch-clause-found r c =
-    sym (list_found c.args.ts.now c.loop-t.t-index c.t-item.result (solution (bounds c.args.trail.now)) c.args.v c.loop-t-test.true c.t-item.is (sym c.in_ok-stands.ensures.found ∙ c.if-branch.true))
+    sym (list_found c.args.ts.now c.loop-t.t-index c.t-item.result (solution (bounds c.args.trail.now)) c.args.v c.loop-t-test.true c.t-item.is
+    (sym c.in_ok-stands.ensures.found ∙ c.if-branch.true))
 
 pub stands_in-loop-t-preserved : goal.stands_in-loop-t-preserved
 stands_in-loop-t-preserved r c = record {
   marks = c.in_ok-stands.ensures.marks;
-  before = list_next c.args.ts.now c.loop-t.t-index c.t-item.result (solution (bounds c.args.trail.now)) c.args.v c.loop-t-test.true c.t-item.is (sym c.in_ok-stands.ensures.found ∙ c.if-branch.false) ∙ c.loop-t.invariant.before;
+  before = list_next c.args.ts.now c.loop-t.t-index c.t-item.result (solution (bounds c.args.trail.now)) c.args.v c.loop-t-test.true c.t-item.is
+      (sym c.in_ok-stands.ensures.found ∙ c.if-branch.false) ∙ c.loop-t.invariant.before;
 }

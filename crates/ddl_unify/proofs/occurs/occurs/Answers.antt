@@ -6,4 +6,5 @@ use Rattle.ddl_unify.proofs.occurs.occurs.Goals as goal
 
 pub returns-then-not-is_named : goal.returns-then-not-is_named
 returns-then-not-is_named c =
-    c.holds.ensures ∙ sym (read_absent (bounds c.args.trail.now) c.args.v (ty_view c.args.t.now) c.requires.free (c.requires.named.absent c.args.v (sym c.is_named.ensures ∙ c.if-not-is_named.true)))
+    c.holds.ensures ∙ sym (read_absent (bounds c.args.trail.now) c.args.v (ty_view c.args.t.now) c.requires.free
+    (c.requires.named.absent c.args.v (sym c.is_named.ensures ∙ c.if-not-is_named.true)))

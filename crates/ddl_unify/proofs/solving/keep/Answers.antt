@@ -10,14 +10,17 @@ mark-requires c = below_more (ty_view c.args.t) (length c.args.place.now.items) 
 
 pub returns-clause-fine : goal.returns-clause-fine
 returns-clause-fine c =
-    fine_more c.args.place.now.items c.args.trail.now.items c.push.new.self.items (record { from = c.args.v; to = c.args.t }) c.len-2.result c.in_ok-push.ensures.items (search rules)
+    fine_more c.args.place.now.items c.args.trail.now.items c.push.new.self.items (record { from = c.args.v; to = c.args.t }) c.len-2.result
+    c.in_ok-push.ensures.items (search rules)
     (record { kept = c.requires.kept; free = c.requires.free; absent = c.requires.absent; within = c.requires.within; below = c.requires.below })
 
 pub returns-clause-step : goal.returns-clause-step
 returns-clause-step c = λ es b.
-    step_more c.args.place.now.items c.args.trail.now.items c.push.new.self.items (record { from = c.args.v; to = c.args.t }) c.len-2.result es c.in_ok-push.ensures.items (search rules)
+    step_more c.args.place.now.items c.args.trail.now.items c.push.new.self.items (record { from = c.args.v; to = c.args.t }) c.len-2.result es
+    c.in_ok-push.ensures.items (search rules)
     (record { kept = c.requires.kept; free = c.requires.free; absent = c.requires.absent; within = c.requires.within; below = c.requires.below }) b
 
 pub returns-clause-named : goal.returns-clause-named
 returns-clause-named c =
-    named_more c.args.named.now c.mark.new.named c.args.place.now.items c.args.trail.now.items c.push.new.self.items (record { from = c.args.v; to = c.args.t }) c.len-2.result c.in_ok-push.ensures.items c.requires.named c.mark.ensures
+    named_more c.args.named.now c.mark.new.named c.args.place.now.items c.args.trail.now.items c.push.new.self.items (record { from = c.args.v; to = c.args.t })
+    c.len-2.result c.in_ok-push.ensures.items c.requires.named c.mark.ensures

@@ -20,7 +20,9 @@ returns-then-v-w-clause-step c = λ es b.
 pub keep-requires-clause-absent : goal.keep-requires-clause-absent
 keep-requires-clause-absent c =
     let e : ty_view (program.Ty.Var c.args.w) ≡ var c.args.w = search (rules, layers) in
-    ap (λ x. has (on x (solution (bounds c.args.trail.now.items))) c.args.v) e ∙ ap (λ x. has x c.args.v) (unbound_read (bounds c.args.trail.now.items) c.args.w c.requires.w_free) ∙ ne_eqb c.args.w c.args.v (λ q. c.if-v-w.false (sym q))
+    ap (λ x. has (on x (solution (bounds c.args.trail.now.items))) c.args.v) e
+    ∙ ap (λ x. has x c.args.v) (unbound_read (bounds c.args.trail.now.items) c.args.w c.requires.w_free)
+    ∙ ne_eqb c.args.w c.args.v (λ q. c.if-v-w.false (sym q))
 
 pub keep-requires-clause-below : goal.keep-requires-clause-below
 keep-requires-clause-below c =

@@ -19,17 +19,23 @@ loop-pair-init c = record {
 
 pub turn-requires-clause-left_below : goal.turn-requires-clause-left_below
 turn-requires-clause-left_below c =
-    let h = going_below _ _ _ c.loop-pair.place.items c.loop-pair.trail.items (equations c.loop-pair.stack.items) (equations c.pop.new.self.items) (pair_view c.in-Some.pair) c.loop-pair.invariant.going (equations_last c.pop.new.self.items c.loop-pair.stack.items c.in-Some.pair c.in-Some.ensures.items) in
+    let h = going_below _ _ _ c.loop-pair.place.items c.loop-pair.trail.items (equations c.loop-pair.stack.items) (equations c.pop.new.self.items)
+    (pair_view c.in-Some.pair) c.loop-pair.invariant.going
+    (equations_last c.pop.new.self.items c.loop-pair.stack.items c.in-Some.pair c.in-Some.ensures.items) in
     (below_back (equations c.pop.new.self.items) (pair_view c.in-Some.pair ∷ []) (length c.loop-pair.place.items) h).0
 
 pub turn-requires-clause-right_below : goal.turn-requires-clause-right_below
 turn-requires-clause-right_below c =
-    let h = going_below _ _ _ c.loop-pair.place.items c.loop-pair.trail.items (equations c.loop-pair.stack.items) (equations c.pop.new.self.items) (pair_view c.in-Some.pair) c.loop-pair.invariant.going (equations_last c.pop.new.self.items c.loop-pair.stack.items c.in-Some.pair c.in-Some.ensures.items) in
+    let h = going_below _ _ _ c.loop-pair.place.items c.loop-pair.trail.items (equations c.loop-pair.stack.items) (equations c.pop.new.self.items)
+    (pair_view c.in-Some.pair) c.loop-pair.invariant.going
+    (equations_last c.pop.new.self.items c.loop-pair.stack.items c.in-Some.pair c.in-Some.ensures.items) in
     (below_back (equations c.pop.new.self.items) (pair_view c.in-Some.pair ∷ []) (length c.loop-pair.place.items) h).1
 
 pub turn-requires-clause-stack_below : goal.turn-requires-clause-stack_below
 turn-requires-clause-stack_below c =
-    let h = going_below _ _ _ c.loop-pair.place.items c.loop-pair.trail.items (equations c.loop-pair.stack.items) (equations c.pop.new.self.items) (pair_view c.in-Some.pair) c.loop-pair.invariant.going (equations_last c.pop.new.self.items c.loop-pair.stack.items c.in-Some.pair c.in-Some.ensures.items) in
+    let h = going_below _ _ _ c.loop-pair.place.items c.loop-pair.trail.items (equations c.loop-pair.stack.items) (equations c.pop.new.self.items)
+    (pair_view c.in-Some.pair) c.loop-pair.invariant.going
+    (equations_last c.pop.new.self.items c.loop-pair.stack.items c.in-Some.pair c.in-Some.ensures.items) in
     below_front (equations c.pop.new.self.items) (pair_view c.in-Some.pair ∷ []) (length c.loop-pair.place.items) h
 
 pub returns-clause-solved : goal.returns-clause-solved
@@ -40,14 +46,20 @@ returns-clause-solved c =
 
 pub returns-then-not-branch-clause-solved : goal.returns-then-not-branch-clause-solved
 returns-then-not-branch-clause-solved c =
-    going_stop _ _ _ c.loop-pair.place.items c.loop-pair.trail.items (equations c.loop-pair.stack.items) (equations c.pop.new.self.items) (pair_view c.in-Some.pair) c.loop-pair.invariant.going (equations_last c.pop.new.self.items c.loop-pair.stack.items c.in-Some.pair c.in-Some.ensures.items)
-    (let P : Bool → Type 0 = λ b. StepIs b c.loop-pair.place.items c.loop-pair.trail.items (equations c.pop.new.self.items) (ty_view c.in-Some.pair.left) (ty_view c.in-Some.pair.right) c.turn.new.place.items c.turn.new.trail.items (equations c.turn.new.stack.items) in
+    going_stop _ _ _ c.loop-pair.place.items c.loop-pair.trail.items (equations c.loop-pair.stack.items) (equations c.pop.new.self.items)
+    (pair_view c.in-Some.pair) c.loop-pair.invariant.going
+    (equations_last c.pop.new.self.items c.loop-pair.stack.items c.in-Some.pair c.in-Some.ensures.items)
+    (let P : Bool → Type 0 = λ b. StepIs b c.loop-pair.place.items c.loop-pair.trail.items (equations c.pop.new.self.items) (ty_view c.in-Some.pair.left)
+    (ty_view c.in-Some.pair.right) c.turn.new.place.items c.turn.new.trail.items (equations c.turn.new.stack.items) in
     subst P c.if-not-branch.true c.in_ok-turn.ensures.step)
 
 pub loop-pair-smaller : goal.loop-pair-smaller
 loop-pair-smaller c =
-    going_smaller c.loop-pair.place.items c.loop-pair.trail.items (equations c.loop-pair.stack.items) (equations c.pop.new.self.items) (pair_view c.in-Some.pair) c.turn.new.place.items c.turn.new.trail.items (equations c.turn.new.stack.items) (equations_last c.pop.new.self.items c.loop-pair.stack.items c.in-Some.pair c.in-Some.ensures.items)
-    (let P : Bool → Type 0 = λ b. StepIs b c.loop-pair.place.items c.loop-pair.trail.items (equations c.pop.new.self.items) (ty_view c.in-Some.pair.left) (ty_view c.in-Some.pair.right) c.turn.new.place.items c.turn.new.trail.items (equations c.turn.new.stack.items) in
+    going_smaller c.loop-pair.place.items c.loop-pair.trail.items (equations c.loop-pair.stack.items) (equations c.pop.new.self.items)
+    (pair_view c.in-Some.pair) c.turn.new.place.items c.turn.new.trail.items (equations c.turn.new.stack.items)
+    (equations_last c.pop.new.self.items c.loop-pair.stack.items c.in-Some.pair c.in-Some.ensures.items)
+    (let P : Bool → Type 0 = λ b. StepIs b c.loop-pair.place.items c.loop-pair.trail.items (equations c.pop.new.self.items) (ty_view c.in-Some.pair.left)
+    (ty_view c.in-Some.pair.right) c.turn.new.place.items c.turn.new.trail.items (equations c.turn.new.stack.items) in
     subst P c.if-not-branch.false c.in_ok-turn.ensures.step)
 
 pub turn-requires-clause-remembers : goal.turn-requires-clause-remembers
@@ -57,8 +69,11 @@ turn-requires-clause-remembers c =
 
 pub loop-pair-preserved : goal.loop-pair-preserved
 loop-pair-preserved c = record {
-  going = going_next _ _ _ c.loop-pair.place.items c.loop-pair.trail.items (equations c.loop-pair.stack.items) (equations c.pop.new.self.items) (pair_view c.in-Some.pair) c.turn.new.place.items c.turn.new.trail.items (equations c.turn.new.stack.items) c.loop-pair.invariant.going (equations_last c.pop.new.self.items c.loop-pair.stack.items c.in-Some.pair c.in-Some.ensures.items) c.in_ok-turn.ensures.fine
-      (let P : Bool → Type 0 = λ b. StepIs b c.loop-pair.place.items c.loop-pair.trail.items (equations c.pop.new.self.items) (ty_view c.in-Some.pair.left) (ty_view c.in-Some.pair.right) c.turn.new.place.items c.turn.new.trail.items (equations c.turn.new.stack.items) in
+  going = going_next _ _ _ c.loop-pair.place.items c.loop-pair.trail.items (equations c.loop-pair.stack.items) (equations c.pop.new.self.items)
+      (pair_view c.in-Some.pair) c.turn.new.place.items c.turn.new.trail.items (equations c.turn.new.stack.items) c.loop-pair.invariant.going
+      (equations_last c.pop.new.self.items c.loop-pair.stack.items c.in-Some.pair c.in-Some.ensures.items) c.in_ok-turn.ensures.fine
+      (let P : Bool → Type 0 = λ b. StepIs b c.loop-pair.place.items c.loop-pair.trail.items (equations c.pop.new.self.items) (ty_view c.in-Some.pair.left)
+      (ty_view c.in-Some.pair.right) c.turn.new.place.items c.turn.new.trail.items (equations c.turn.new.stack.items) in
       subst P c.if-not-branch.false c.in_ok-turn.ensures.step);
   named = c.in_ok-turn.ensures.named;
   remembers = on_true c.in_ok-turn.field-0 _ c.in_ok-turn.ensures.remembers c.if-not-branch.false;

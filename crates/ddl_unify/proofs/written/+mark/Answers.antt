@@ -13,9 +13,13 @@ mark-returns-in-Var r c =
 
 pub mark_all-mark-requires : goal.mark_all-mark-requires
 mark_all-mark-requires r c =
-    let P : ℕ → Type 0 = λ n. Below (ty_view c.t-item.result) n in
-    (omega (arith, c.decreases, size_in c.args.ts.now c.loop-t.t-index c.t-item.result c.loop-t-test.true c.t-item.is), subst P (sym c.loop-t.invariant.long) (below_in c.args.ts.now c.loop-t.t-index (length c.args.named.now) c.t-item.result c.loop-t-test.true c.t-item.is c.requires))
+    let P : ℕ → Type 0 = λ n. Below (ty_view c.t-item.result) n in (
+      omega (arith, c.decreases, size_in c.args.ts.now c.loop-t.t-index c.t-item.result c.loop-t-test.true c.t-item.is),
+      subst P (sym c.loop-t.invariant.long) (below_in c.args.ts.now c.loop-t.t-index (length c.args.named.now) c.t-item.result c.loop-t-test.true c.t-item.is
+          c.requires),
+    )
 
 pub mark_all-loop-t-preserved : goal.mark_all-loop-t-preserved
 mark_all-loop-t-preserved r c =
-    marked_next c.args.ts.now c.loop-t.t-index c.t-item.result c.args.named.now c.loop-t.named c.mark.new.named c.loop-t-test.true c.t-item.is c.loop-t.invariant c.mark.ensures
+    marked_next c.args.ts.now c.loop-t.t-index c.t-item.result c.args.named.now c.loop-t.named c.mark.new.named c.loop-t-test.true c.t-item.is
+    c.loop-t.invariant c.mark.ensures

@@ -18,7 +18,8 @@ pub returns-clause-interned : goal.returns-clause-interned
 returns-clause-interned c =
     let P : List (List ℕ) → Type 0 = λ names. IsWith names c.args.text.now c.in_ok-place.place (map items c.insert_full.new.self.keys) in
     let s = c.in_ok-place.ensures.stored in
-    subst P c.self.view_is (IsWith-inserted items c.self.inside.texts.keys c.insert_full.new.self.keys c.in_ok-owned.owned s.0 c.in_ok-place.place c.args.text.now c.in_ok-owned.ensures c.in_ok-place.ensures.keys s.1 s.2)
+    subst P c.self.view_is (IsWith-inserted items c.self.inside.texts.keys c.insert_full.new.self.keys c.in_ok-owned.owned s.0 c.in_ok-place.place
+    c.args.text.now c.in_ok-owned.ensures c.in_ok-place.ensures.keys s.1 s.2)
 
 pub returns-clause-distinct : goal.returns-clause-distinct
 returns-clause-distinct c = AreDistinct-map items c.insert_full.new.self.keys c.in_ok-place.ensures.unique

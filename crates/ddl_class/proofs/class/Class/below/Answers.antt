@@ -5,7 +5,8 @@ use Rattle.ddl_class.proofs.Words.{each_word, bit_of_ones, same_order}
 use Rattle.ddl_class.proofs.class.Class.below.Goals as goal
 
 -- a bit of word q, which begins at byte 64 * q
-bit_of_word : (bound byte q word count rest : ℕ) → word ≡ 2 ^ count - 1 → count ≡ min rest 64 → rest ≡ bound - 64 * q → byte / 64 ≡ q → eqb (bit_at word (byte % 64)) 1 ≡ ltb byte bound
+bit_of_word : (bound byte q word count rest : ℕ) → word ≡ 2 ^ count - 1 → count ≡ min rest 64 → rest ≡ bound - 64 * q → byte / 64 ≡ q
+    → eqb (bit_at word (byte % 64)) 1 ≡ ltb byte bound
 bit_of_word bound byte q word count rest is is_count is_rest at =
     ap (λ w. eqb (bit_at w (byte % 64)) 1) is
     ∙ bit_of_ones count (byte % 64)

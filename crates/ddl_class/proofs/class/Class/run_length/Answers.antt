@@ -9,4 +9,5 @@ returns-then-not-has c =
 
 pub returns : goal.returns
 returns c =
-    sym (prefix_len_is (contains c.args.self.now) c.args.bytes.now _ 0 (omega arith) (λ k h. c.loop-place.invariant k (omega arith)) (λ h. absurd (omega arith)))
+    sym (prefix_len_is (contains c.args.self.now) c.args.bytes.now _ 0 (omega arith) (λ k h. c.loop-place.invariant k (omega arith)) (λ h.
+    absurd (omega arith)))

@@ -13,12 +13,15 @@ loop-unit-preserved c =
     let steps : into_iter_items c.loop-unit.unit-iterator ≡ c.in-Some.unit ∷ into_iter_items c.next.new.self = c.in-Some.ensures.steps.0 in
     record {
       sized = (let was = c.loop-unit.invariant.sized in let gone = c.in-Some.ensures.steps.1 in let short = ap length steps in omega arith);
-      names = name_kept c.in-Some.unit (into_iter_items c.next.new.self) (into_iter_items c.loop-unit.unit-iterator) c.loop-unit.names.items c.keep_unit.new.names.items _ steps
+      names = name_kept c.in-Some.unit (into_iter_items c.next.new.self) (into_iter_items c.loop-unit.unit-iterator) c.loop-unit.names.items
+          c.keep_unit.new.names.items _ steps
           c.in_ok-keep_unit.ensures.name c.loop-unit.invariant.names;
       decls = ap (λ n. map info_view c.keep_unit.new.decls.items ++ infos_from n (loaded (into_iter_items c.next.new.self))) c.in_ok-place.ensures
-          ∙ unit_kept c.loop-unit.place c.in-Some.unit (into_iter_items c.next.new.self) (into_iter_items c.loop-unit.unit-iterator) (map info_view c.loop-unit.decls.items)
+          ∙ unit_kept c.loop-unit.place c.in-Some.unit (into_iter_items c.next.new.self) (into_iter_items c.loop-unit.unit-iterator)
+          (map info_view c.loop-unit.decls.items)
           (map info_view c.keep_unit.new.decls.items) _ steps c.in_ok-keep_unit.ensures.decls c.loop-unit.invariant.decls;
-      room = room_left c.loop-unit.place c.in-Some.unit (into_iter_items c.next.new.self) (into_iter_items c.loop-unit.unit-iterator) c.loop-unit.decls.items c.keep_unit.new.decls.items _
+      room = room_left c.loop-unit.place c.in-Some.unit (into_iter_items c.next.new.self) (into_iter_items c.loop-unit.unit-iterator) c.loop-unit.decls.items
+          c.keep_unit.new.decls.items _
           steps c.in_ok-keep_unit.ensures.decls c.loop-unit.invariant.room;
       firsts = subst (λ (fs : List ℕ). AreFirst fs c.keep_unit.new.decls.items) c.deref.ensures.value c.in_ok-keep_unit.ensures.firsts;
     }

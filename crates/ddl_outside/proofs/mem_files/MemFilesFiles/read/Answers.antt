@@ -12,17 +12,21 @@ returns-clause-later c = Later-trans _ _ _ (Later-asked c.args.self.now c.asked.
 
 pub returns-clause-only : goal.returns-clause-only
 returns-clause-only c =
-    TouchesOnly-asked c.args.self.now c.piece.new.self c.args.at (length c.args.into.now) c.args.name.now (c.piece.ensures.files ∙ ap (λ (m : MemState). m.files) c.asked.ensures)
+    TouchesOnly-asked c.args.self.now c.piece.new.self c.args.at (length c.args.into.now) c.args.name.now (c.piece.ensures.files
+    ∙ ap (λ (m : MemState). m.files) c.asked.ensures)
 
 pub returns-clause-told : goal.returns-clause-told
 returns-clause-told c =
-    ap told_in (c.piece.ensures.files ∙ ap (λ (m : MemState). m.files) c.asked.ensures) ∙ told_in-asked c.args.at (length c.args.into.now) c.args.self.now.files c.args.name.now
+    ap told_in (c.piece.ensures.files ∙ ap (λ (m : MemState). m.files) c.asked.ensures)
+    ∙ told_in-asked c.args.at (length c.args.into.now) c.args.self.now.files c.args.name.now
 
 pub returns-clause-reach : goal.returns-clause-reach
 returns-clause-reach c =
-    rw (c.piece.ensures.files ∙ ap (λ (m : MemState). m.files) c.asked.ensures) (reach_in-asked c.args.at (length c.args.into.now) c.args.self.now.files c.args.name.now c.requires.told)
+    rw (c.piece.ensures.files ∙ ap (λ (m : MemState). m.files) c.asked.ensures)
+    (reach_in-asked c.args.at (length c.args.into.now) c.args.self.now.files c.args.name.now c.requires.told)
 
 pub returns-clause-answer : goal.returns-clause-answer
 returns-clause-answer c =
-    IsPiece-earlier (files_state c.args.self.now) (files_state c.asked.new.self) (files_state c.piece.new.self) c.args.name.now c.args.at c.piece.new.into c.piece.result
+    IsPiece-earlier (files_state c.args.self.now) (files_state c.asked.new.self) (files_state c.piece.new.self) c.args.name.now c.args.at c.piece.new.into
+    c.piece.result
     (Later-asked c.args.self.now c.asked.new.self c.args.at (length c.args.into.now) c.args.name.now c.asked.ensures) c.piece.ensures.answer

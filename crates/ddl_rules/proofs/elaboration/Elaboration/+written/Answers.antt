@@ -34,6 +34,10 @@ returns-in-Float t c = search (rules, layers, written_here)
 pub returns-in_ok-map-in-MapOf : goal.returns-in_ok-map-in-MapOf
 unfolding asks_of state_of env_of
 returns-in_ok-map-in-MapOf t c =
-    let tree : type_view c.args.of.now ≡ y.MapOf (type_view c.deref-in-MapOf.result.now) (type_view c.deref-in-MapOf-2.result.now) c.in-MapOf.span = grind (arith, layers) in
-    let P : y.TypeExpr → Type 0 = λ x. IsWritten c.in_ok-map-in-MapOf.map (written (env_of c.args.self.now).known x (state_of c.args.self.now)) (env_of c.args.self.now) c.args.self.now c.written-in-MapOf-2.new.self in
-    subst P (sym tree) (written_both (type_view c.deref-in-MapOf.result.now) (type_view c.deref-in-MapOf-2.result.now) c.in-MapOf.span c.in_ok-key-in-MapOf.key c.in_ok-value-in-MapOf.value c.in_ok-map-in-MapOf.map c.args.self.now c.written-in-MapOf.new.self c.written-in-MapOf-2.new.self c.in_ok-key-in-MapOf.ensures c.in_ok-value-in-MapOf.ensures c.in_ok-map-in-MapOf.ensures)
+    let tree : type_view c.args.of.now ≡ y.MapOf (type_view c.deref-in-MapOf.result.now) (type_view c.deref-in-MapOf-2.result.now) c.in-MapOf.span =
+    grind (arith, layers) in
+    let P : y.TypeExpr → Type 0 = λ x. IsWritten c.in_ok-map-in-MapOf.map (written (env_of c.args.self.now).known x (state_of c.args.self.now))
+    (env_of c.args.self.now) c.args.self.now c.written-in-MapOf-2.new.self in
+    subst P (sym tree) (written_both (type_view c.deref-in-MapOf.result.now) (type_view c.deref-in-MapOf-2.result.now) c.in-MapOf.span c.in_ok-key-in-MapOf.key
+    c.in_ok-value-in-MapOf.value c.in_ok-map-in-MapOf.map c.args.self.now c.written-in-MapOf.new.self c.written-in-MapOf-2.new.self
+    c.in_ok-key-in-MapOf.ensures c.in_ok-value-in-MapOf.ensures c.in_ok-map-in-MapOf.ensures)

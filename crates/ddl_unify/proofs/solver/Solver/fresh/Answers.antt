@@ -11,6 +11,8 @@ invariant_of-self-2 c =
     let P : List ℕ → Type 0 = λ z. Holding (equations c.self.inside.accepted.items) z c.self.inside.trail.items in
     let Q : List Bool → Type 0 = λ z. Named z c.push-2.new.self.items c.self.inside.trail.items in
     let R : List ℕ → Type 0 = λ z. Named (c.self.inside.named.items ++ false ∷ []) z c.self.inside.trail.items in (
-      subst P (sym c.in_ok-push-2.ensures.items) (holding_fresh (equations c.self.inside.accepted.items) c.self.inside.place.items c.self.inside.trail.items c.self.invariant.0),
-      subst Q (sym c.in_ok-push.ensures.items) (subst R (sym c.in_ok-push-2.ensures.items) (named_fresh c.self.inside.named.items c.self.inside.place.items c.self.inside.trail.items c.self.invariant.1)),
+      subst P (sym c.in_ok-push-2.ensures.items) (holding_fresh (equations c.self.inside.accepted.items) c.self.inside.place.items c.self.inside.trail.items
+          c.self.invariant.0),
+      subst Q (sym c.in_ok-push.ensures.items) (subst R (sym c.in_ok-push-2.ensures.items)
+          (named_fresh c.self.inside.named.items c.self.inside.place.items c.self.inside.trail.items c.self.invariant.1)),
     )

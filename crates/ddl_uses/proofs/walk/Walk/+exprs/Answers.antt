@@ -31,8 +31,12 @@ take_args-returns-in_err-take_expr-clause-found r c =
     let x = c.index-args-place.result in
     let i = c.loop-place.place in
     let first : IsFirst (arguments site (exprs_view xs) ws s) c.in_err-take_expr.field-0.0 =
-    refused_there (λ t q. findings t (view x) c.want.result q) w here (arguments site (exprs_view xs) ws s) (arguments site (exprs_view (drop (i + 1) xs)) (drop (i + 1) ws) s) (arguments site (exprs_view (drop i xs)) (drop i ws) s) w.uses.items here.uses.items c.in_err-take_expr.field-0.0
-    c.loop-place.invariant.1 c.loop-place.invariant.0 (next_argument site xs i x ws s c.index-args-place.is c.loop-place-test.true ∙ ap (λ (v : Want). findings site (view x) v s ++ arguments site (exprs_view (drop (i + 1) xs)) (drop (i + 1) ws) s) (sym c.want.ensures)) c.in_err-take_expr.ensures.found in
+    refused_there (λ t q. findings t (view x) c.want.result q) w here (arguments site (exprs_view xs) ws s)
+    (arguments site (exprs_view (drop (i + 1) xs)) (drop (i + 1) ws) s) (arguments site (exprs_view (drop i xs)) (drop i ws) s) w.uses.items here.uses.items
+    c.in_err-take_expr.field-0.0
+    c.loop-place.invariant.1 c.loop-place.invariant.0 (next_argument site xs i x ws s c.index-args-place.is c.loop-place-test.true
+    ∙ ap (λ (v : Want). findings site (view x) v s ++ arguments site (exprs_view (drop (i + 1) xs)) (drop (i + 1) ws) s) (sym c.want.ensures))
+    c.in_err-take_expr.ensures.found in
     search (rules, first)
 
 pub take_args-loop-place-preserved : goal.take_args-loop-place-preserved
@@ -46,8 +50,12 @@ take_args-loop-place-preserved r c =
     let x = c.index-args-place.result in
     let i = c.loop-place.place in
     let found = c.in_ok-take_expr.ensures.found in (
-      done_there (λ t q. findings t (view x) c.want.result q) w here (arguments site (exprs_view xs) ws s) (arguments site (exprs_view (drop (i + 1) xs)) (drop (i + 1) ws) s) (arguments site (exprs_view (drop i xs)) (drop i ws) s) w.uses.items here.uses.items c.take_expr.new.self.uses.items
-          c.loop-place.invariant.1 c.loop-place.invariant.0 (next_argument site xs i x ws s c.index-args-place.is c.loop-place-test.true ∙ ap (λ (v : Want). findings site (view x) v s ++ arguments site (exprs_view (drop (i + 1) xs)) (drop (i + 1) ws) s) (sym c.want.ensures)) found.0 found.1,
+      done_there (λ t q. findings t (view x) c.want.result q) w here (arguments site (exprs_view xs) ws s)
+          (arguments site (exprs_view (drop (i + 1) xs)) (drop (i + 1) ws) s) (arguments site (exprs_view (drop i xs)) (drop i ws) s) w.uses.items
+          here.uses.items c.take_expr.new.self.uses.items
+          c.loop-place.invariant.1 c.loop-place.invariant.0 (next_argument site xs i x ws s c.index-args-place.is c.loop-place-test.true
+          ∙ ap (λ (v : Want). findings site (view x) v s ++ arguments site (exprs_view (drop (i + 1) xs)) (drop (i + 1) ws) s) (sym c.want.ensures)) found.0
+          found.1,
       kept_on w here c.take_expr.new.self c.loop-place.invariant.1 c.in_ok-take_expr.ensures.kept,
     )
 
@@ -55,7 +63,8 @@ pub take_binding-returns-in_err-take_expr-clause-found : goal.take_binding-retur
 take_binding-returns-in_err-take_expr-clause-found r c =
     let f = again (seen_view c.args.seen.now) c.args.name.now in
     let g = findings (site_view c.args.self.now.outer) (view c.args.value.now) c.args.want (scope_view c.args.self.now.scope) in
-    let first : IsFirst (f ++ g) c.in_err-take_expr.field-0.0 = later f g c.in_err-take_expr.field-0.0 c.in_ok-once_named.ensures.found.0 c.in_err-take_expr.ensures.found in
+    let first : IsFirst (f ++ g) c.in_err-take_expr.field-0.0 =
+    later f g c.in_err-take_expr.field-0.0 c.in_ok-once_named.ensures.found.0 c.in_err-take_expr.ensures.found in
     search (rules, first)
 
 pub take_bindings-returns-in_err-take_binding-clause-found : goal.take_bindings-returns-in_err-take_binding-clause-found
@@ -74,9 +83,11 @@ take_bindings-returns-in_err-take_binding-clause-found r c =
     let left : List Finding = bindings site (bindings_view (drop i xs)) c.args.want before s in
     let next : left ≡ (again before n ++ findings site (view (out-Binding x).value) c.args.want s) ++ rest =
     next_binding site xs i x c.args.want before s c.binding-item.is c.loop-binding-test.true
-    ∙ ap (λ (b : ex.Binding). again before b.name ++ findings site b.value c.args.want s ++ bindings site (bindings_view (drop (i + 1) xs)) c.args.want (before ++ b.name ∷ []) s) (binding_view_out x) in
+    ∙ ap (λ (b : ex.Binding). again before b.name ++ findings site b.value c.args.want s
+    ++ bindings site (bindings_view (drop (i + 1) xs)) c.args.want (before ++ b.name ∷ []) s) (binding_view_out x) in
     let first : IsFirst all c.in_err-take_binding.field-0.0 =
-    refused_there (λ t q. again before n ++ findings t (view (out-Binding x).value) c.args.want q) w here all rest left w.uses.items here.uses.items c.in_err-take_binding.field-0.0
+    refused_there (λ t q. again before n ++ findings t (view (out-Binding x).value) c.args.want q) w here all rest left w.uses.items here.uses.items
+    c.in_err-take_binding.field-0.0
     c.loop-binding.invariant.1 c.loop-binding.invariant.0 next c.in_err-take_binding.ensures.found in
     search (rules, first)
 
@@ -96,12 +107,15 @@ take_bindings-loop-binding-preserved r c =
     let left : List Finding = bindings site (bindings_view (drop i xs)) c.args.want before s in
     let next : left ≡ (again before n ++ findings site (view (out-Binding x).value) c.args.want s) ++ rest =
     next_binding site xs i x c.args.want before s c.binding-item.is c.loop-binding-test.true
-    ∙ ap (λ (b : ex.Binding). again before b.name ++ findings site b.value c.args.want s ++ bindings site (bindings_view (drop (i + 1) xs)) c.args.want (before ++ b.name ∷ []) s) (binding_view_out x) in
+    ∙ ap (λ (b : ex.Binding). again before b.name ++ findings site b.value c.args.want s
+    ++ bindings site (bindings_view (drop (i + 1) xs)) c.args.want (before ++ b.name ∷ []) s) (binding_view_out x) in
     let found = c.in_ok-take_binding.ensures.found in
     let end : Leaves all w.uses.items rest c.take_binding.new.self.uses.items =
-    done_there (λ t q. again before n ++ findings t (view (out-Binding x).value) c.args.want q) w here all rest left w.uses.items here.uses.items c.take_binding.new.self.uses.items
+    done_there (λ t q. again before n ++ findings t (view (out-Binding x).value) c.args.want q) w here all rest left w.uses.items here.uses.items
+    c.take_binding.new.self.uses.items
     c.loop-binding.invariant.1 c.loop-binding.invariant.0 next found.0 found.1 in (
-      subst (λ (ns : List Name). Leaves all w.uses.items (bindings site (bindings_view (drop (i + 1) xs)) c.args.want ns s) c.take_binding.new.self.uses.items) (sym c.in_ok-take_binding.ensures.seen) end,
+      subst (λ (ns : List Name). Leaves all w.uses.items (bindings site (bindings_view (drop (i + 1) xs)) c.args.want ns s) c.take_binding.new.self.uses.items)
+          (sym c.in_ok-take_binding.ensures.seen) end,
       kept_on w here c.take_binding.new.self c.loop-binding.invariant.1 c.in_ok-take_binding.ensures.kept,
       c.in_ok-take_binding.ensures.sound,
     )
@@ -116,8 +130,11 @@ take_branches-returns-in_err-take_branch-clause-found r c =
     let x = c.alt-item.result in
     let i = c.loop-alt.alt-index in
     let first : IsFirst (branches site (alts_view xs) c.args.want s) c.in_err-take_branch.field-0.0 =
-    refused_there (λ t q. findings t (alt_view x).body c.args.want (after_pattern (alt_view x).pattern q)) w here (branches site (alts_view xs) c.args.want s) (branches site (alts_view (drop (i + 1) xs)) c.args.want s) (branches site (alts_view (drop i xs)) c.args.want s) w.uses.items here.uses.items c.in_err-take_branch.field-0.0
-    c.loop-alt.invariant.1 c.loop-alt.invariant.0 (next_branch site xs i x c.args.want s c.alt-item.is c.loop-alt-test.true) c.in_err-take_branch.ensures.found in
+    refused_there (λ t q. findings t (alt_view x).body c.args.want (after_pattern (alt_view x).pattern q)) w here (branches site (alts_view xs) c.args.want s)
+    (branches site (alts_view (drop (i + 1) xs)) c.args.want s) (branches site (alts_view (drop i xs)) c.args.want s) w.uses.items here.uses.items
+    c.in_err-take_branch.field-0.0
+    c.loop-alt.invariant.1 c.loop-alt.invariant.0 (next_branch site xs i x c.args.want s c.alt-item.is c.loop-alt-test.true) c.in_err-take_branch.ensures.found
+    in
     search (rules, first)
 
 pub take_branches-loop-alt-preserved : goal.take_branches-loop-alt-preserved
@@ -130,7 +147,9 @@ take_branches-loop-alt-preserved r c =
     let x = c.alt-item.result in
     let i = c.loop-alt.alt-index in
     let found = c.in_ok-take_branch.ensures.found in (
-      done_there (λ t q. findings t (alt_view x).body c.args.want (after_pattern (alt_view x).pattern q)) w here (branches site (alts_view xs) c.args.want s) (branches site (alts_view (drop (i + 1) xs)) c.args.want s) (branches site (alts_view (drop i xs)) c.args.want s) w.uses.items here.uses.items c.take_branch.new.self.uses.items
+      done_there (λ t q. findings t (alt_view x).body c.args.want (after_pattern (alt_view x).pattern q)) w here (branches site (alts_view xs) c.args.want s)
+          (branches site (alts_view (drop (i + 1) xs)) c.args.want s) (branches site (alts_view (drop i xs)) c.args.want s) w.uses.items here.uses.items
+          c.take_branch.new.self.uses.items
           c.loop-alt.invariant.1 c.loop-alt.invariant.0 (next_branch site xs i x c.args.want s c.alt-item.is c.loop-alt-test.true) found.0 found.1,
       kept_on w here c.take_branch.new.self c.loop-alt.invariant.1 c.in_ok-take_branch.ensures.kept,
     )
@@ -145,8 +164,11 @@ take_exprs-returns-in_err-take_expr-clause-found r c =
     let x = c.expr-item.result in
     let i = c.loop-expr.expr-index in
     let first : IsFirst (each site (exprs_view xs) c.args.want s) c.in_err-take_expr.field-0.0 =
-    refused_there (λ t q. findings t (view x) c.args.want q) w here (each site (exprs_view xs) c.args.want s) (each site (exprs_view (drop (i + 1) xs)) c.args.want s) (each site (exprs_view (drop i xs)) c.args.want s) w.uses.items here.uses.items c.in_err-take_expr.field-0.0
-    c.loop-expr.invariant.1 c.loop-expr.invariant.0 (next_expr site xs i x c.args.want s c.expr-item.is c.loop-expr-test.true) c.in_err-take_expr.ensures.found in
+    refused_there (λ t q. findings t (view x) c.args.want q) w here (each site (exprs_view xs) c.args.want s)
+    (each site (exprs_view (drop (i + 1) xs)) c.args.want s) (each site (exprs_view (drop i xs)) c.args.want s) w.uses.items here.uses.items
+    c.in_err-take_expr.field-0.0
+    c.loop-expr.invariant.1 c.loop-expr.invariant.0 (next_expr site xs i x c.args.want s c.expr-item.is c.loop-expr-test.true) c.in_err-take_expr.ensures.found
+    in
     search (rules, first)
 
 pub take_exprs-loop-expr-preserved : goal.take_exprs-loop-expr-preserved
@@ -159,7 +181,9 @@ take_exprs-loop-expr-preserved r c =
     let x = c.expr-item.result in
     let i = c.loop-expr.expr-index in
     let found = c.in_ok-take_expr.ensures.found in (
-      done_there (λ t q. findings t (view x) c.args.want q) w here (each site (exprs_view xs) c.args.want s) (each site (exprs_view (drop (i + 1) xs)) c.args.want s) (each site (exprs_view (drop i xs)) c.args.want s) w.uses.items here.uses.items c.take_expr.new.self.uses.items
+      done_there (λ t q. findings t (view x) c.args.want q) w here (each site (exprs_view xs) c.args.want s)
+          (each site (exprs_view (drop (i + 1) xs)) c.args.want s) (each site (exprs_view (drop i xs)) c.args.want s) w.uses.items here.uses.items
+          c.take_expr.new.self.uses.items
           c.loop-expr.invariant.1 c.loop-expr.invariant.0 (next_expr site xs i x c.args.want s c.expr-item.is c.loop-expr-test.true) found.0 found.1,
       kept_on w here c.take_expr.new.self c.loop-expr.invariant.1 c.in_ok-take_expr.ensures.kept,
     )
@@ -182,7 +206,8 @@ take_items-returns-in_err-take_item-clause-found r c =
     let next : left ≡ f ++ g ++ rest = next_item site xs i c.item-item.result before s c.item-item.is c.loop-item-test.true in
     let new = c.in_ok-once.ensures.found in
     let mid : Leaves all w.uses.items (g ++ rest) here.uses.items =
-    done all f (g ++ rest) left w.uses.items here.uses.items here.uses.items c.loop-item.invariant.0 (next ∙ append_assoc f g rest) new.0 (search (rules, new.1)) in
+    done all f (g ++ rest) left w.uses.items here.uses.items here.uses.items c.loop-item.invariant.0 (next
+    ∙ append_assoc f g rest) new.0 (search (rules, new.1)) in
     let same : item_findings (site_view here.outer) x s ≡ g = ap (λ (o : Outer). item_findings (site_view o) x s) c.loop-item.invariant.3 in
     let first : IsFirst all c.in_err-take_item.field-0.0 =
     refused all g rest (g ++ rest) w.uses.items here.uses.items c.in_err-take_item.field-0.0 mid refl
@@ -207,7 +232,8 @@ take_items-loop-item-preserved r c =
     let next : left ≡ f ++ g ++ rest = next_item site xs i c.item-item.result before s c.item-item.is c.loop-item-test.true in
     let new = c.in_ok-once.ensures.found in
     let mid : Leaves all w.uses.items (g ++ rest) here.uses.items =
-    done all f (g ++ rest) left w.uses.items here.uses.items here.uses.items c.loop-item.invariant.0 (next ∙ append_assoc f g rest) new.0 (search (rules, new.1)) in
+    done all f (g ++ rest) left w.uses.items here.uses.items here.uses.items c.loop-item.invariant.0 (next
+    ∙ append_assoc f g rest) new.0 (search (rules, new.1)) in
     let same : item_findings (site_view here.outer) x s ≡ g = ap (λ (o : Outer). item_findings (site_view o) x s) c.loop-item.invariant.3 in
     let n = length (scope_view w.scope) in
     let found = c.in_ok-take_item.ensures.found in
@@ -216,12 +242,15 @@ take_items-loop-item-preserved r c =
     let end : Leaves all w.uses.items rest c.take_item.new.self.uses.items =
     done all g rest (g ++ rest) w.uses.items here.uses.items c.take_item.new.self.uses.items mid refl (ap first_refusal (sym same) ∙ found.0)
     (found.1 ∙ ap (λ fs. here.uses.items ++ all_uses fs) same) in
-    let named : Leaves all w.uses.items (items site (items_view (drop (i + 1) xs)) (seen_view c.once.new.seen) (after_item x s)) c.take_item.new.self.uses.items =
-    subst (λ (ns : List Name). Leaves all w.uses.items (items site (items_view (drop (i + 1) xs)) ns (after_item x s)) c.take_item.new.self.uses.items) (sym c.in_ok-once.ensures.seen) end in
+    let named : Leaves all w.uses.items (items site (items_view (drop (i + 1) xs)) (seen_view c.once.new.seen) (after_item x s))
+    c.take_item.new.self.uses.items =
+    subst (λ (ns : List Name). Leaves all w.uses.items (items site (items_view (drop (i + 1) xs)) ns (after_item x s)) c.take_item.new.self.uses.items)
+    (sym c.in_ok-once.ensures.seen) end in
     let within : n ≤ length s = c.loop-item.invariant.2 in
     let longer : length s ≤ length (after_item x s) = item_longer x s in
     let more : n ≤ length (after_item x s) = omega arith in (
-      subst (λ (t : Scope). Leaves all w.uses.items (items site (items_view (drop (i + 1) xs)) (seen_view c.once.new.seen) t) c.take_item.new.self.uses.items) (sym bound) named,
+      subst (λ (t : Scope). Leaves all w.uses.items (items site (items_view (drop (i + 1) xs)) (seen_view c.once.new.seen) t) c.take_item.new.self.uses.items)
+          (sym bound) named,
       ap (outermost n) bound ∙ item_left n x s within ∙ c.loop-item.invariant.1,
       subst (λ (t : Scope). n ≤ length t) (sym bound) more,
       kept.0 ∙ c.loop-item.invariant.3,
