@@ -1,6 +1,6 @@
 -- What is remembered of the compared pairs stays true.
 use Rattle.std.proofs.Common.{◌≡◌, ℕ, ◌+◌, ◌≤◌, ◌<◌, List, [], ◌∷◌, ◌++◌, refl, sym, ap, ◌∙◌, arith, zero, suc, inl, inr, ◌⊎◌, length, drop, true, false, Bool}
-use Rattle.std.proofs.Common.{◌&&◌, nat_eq, eqb-true, if◌then◌else◌, subst, length-append, Option, Some, None}
+use Rattle.std.proofs.Common.{◌&&◌, nat_eq, eqb-true, if◌then◌else◌, subst, length-append, Option, Some, None, Result, Ok, Err}
 use Rattle.std.specs.Prelude.{MatchOption}
 use Rattle.std.proofs.lemmas.Bool.Decides.{leb_tells}
 use Rattle.std.proofs.lemmas.List.{drop-append-le, drop_all}
@@ -14,11 +14,13 @@ use Rattle.ddl_unify.specs.declared.store.Pair.{Pair}
 use Rattle.ddl_unify.specs.View.{bounds, onto, bound_view, equations}
 use Rattle.ddl_unify.specs.Equations.{Equation, equal, Solves, EachBelow}
 use Rattle.ddl_unify.specs.Bindings.{Binding, solution, Agrees}
-use Rattle.ddl_unify.specs.Measures.{weight, zeros}
-use Rattle.ddl_unify.specs.Kept.{Step, StepIs}
-use Rattle.ddl_unify.specs.Solving.{Extends}
-use Rattle.ddl_unify.specs.Comparing.{same_pair, KnownOne, Awaits, EachAwaits, Remembers}
-use Rattle.ddl_unify.proofs.Keeping.{extends_same}
+use Rattle.ddl_unify.specs.Measures.{weight}
+use Rattle.ddl_unify.specs.Trails.{bindings, variables, free, Extends, Grows}
+use Rattle.ddl_unify.specs.Solving.{Step, Turned}
+use Rattle.ddl_unify.specs.Comparing.{same_pair, KnownOne, Awaits, Awaited, EachAwaits, Remembers, Remembered}
+use Rattle.ddl_unify.specs.declared.trail.Trail.{Trail}
+use Rattle.ddl_base.specs.declared.memory.NoMemory.{NoMemory}
+use Rattle.ddl_unify.proofs.Keeping.{grows_same}
 use Rattle.ddl_unify.proofs.Stored.{onto_append}
 use Rattle.ddl_unify.proofs.Steps.{solves_append, steps_less, size_some}
 
@@ -40,39 +42,37 @@ awaits_none p xs es f n w a =
     w f a (subst P (sym (drop_all p.above es n)) tt)
 
 -- a step keeps what is awaited
-awaits_step : (p : Pending) (place : List ℕ) (xs : List Bound) (es : List Equation) (l r : Ty) (place2 : List ℕ) (xs2 : List Bound) (es2 : List Equation)
-    → Extends xs xs2 → Step place xs es l r place2 xs2 es2 → Awaits p xs (es ++ equal l r ∷ []) → Awaits p xs2 es2
-awaits_step p place xs es l r place2 xs2 es2 e s w f a q =
+awaits_step : (p : Pending) (t : Trail) (es : List Equation) (l r : Ty) (t2 : Trail) (es2 : List Equation) → Grows t t2 → Step t es l r t2 es2
+    → Awaits p t.0 (es ++ equal l r ∷ []) → Awaits p t2.0 es2
+awaits_step p t es l r t2 es2 e s w f a q =
     elim (leb_tells p.above (length es)) [
       | inl n ↦ (let k : p.above ≤ length es = n.1 in
           let b = s.back p.above k f a q in
           let P : List Equation → Type 0 = λ z. Solves f z in
           w f b.0 (subst P (sym (drop-append-le p.above es (equal l r ∷ []) k)) (solves_append f (drop p.above es) (equal l r ∷ []) b.1 (b.2, tt))))
-      | inr n ↦ awaits_none p xs (es ++ equal l r ∷ []) f (omega (arith, n.1, length-append es (equal l r ∷ []))) w (agrees_front xs xs2 f e a)
+      | inr n ↦ awaits_none p t.0 (es ++ equal l r ∷ []) f (omega (arith, n.1, length-append es (equal l r ∷ []))) w (agrees_front t.0 t2.0 f e.extends a)
     ]
 
-each_step : (ps : List Pending) (place : List ℕ) (xs : List Bound) (es : List Equation) (l r : Ty) (place2 : List ℕ) (xs2 : List Bound) (es2 : List Equation)
-    → Extends xs xs2 → Step place xs es l r place2 xs2 es2 → EachAwaits ps xs (es ++ equal l r ∷ []) → EachAwaits ps xs2 es2
-each_step [] place xs es l r place2 xs2 es2 e s w = tt
-each_step (p ∷ ps) place xs es l r place2 xs2 es2 e s w =
-    (awaits_step p place xs es l r place2 xs2 es2 e s w.0, each_step ps place xs es l r place2 xs2 es2 e s w.1)
+each_step : (ps : List Pending) (t : Trail) (es : List Equation) (l r : Ty) (t2 : Trail) (es2 : List Equation) → Grows t t2 → Step t es l r t2 es2
+    → EachAwaits ps t.0 (es ++ equal l r ∷ []) → EachAwaits ps t2.0 es2
+each_step [] t es l r t2 es2 e s w = tt
+each_step (p ∷ ps) t es l r t2 es2 e s w = (awaits_step p t es l r t2 es2 e s w.0, each_step ps t es l r t2 es2 e s w.1)
 
 -- and what is remembered
-pub remembers_step : (m : Compared) (place : List ℕ) (xs : List Bound) (es : List Equation) (l r : Ty) (place2 : List ℕ) (xs2 : List Bound)
-    (es2 : List Equation) → Extends xs xs2 → Step place xs es l r place2 xs2 es2 → Remembers m xs (es ++ equal l r ∷ []) → Remembers m xs2 es2
-remembers_step m place xs es l r place2 xs2 es2 e s h = record {
-  known = λ p k f a. h.known p k f (agrees_front xs xs2 f e a);
-  pending = each_step m.pending.items place xs es l r place2 xs2 es2 e s h.pending;
+pub remembers_step : (m : Compared) (t : Trail) (es : List Equation) (l r : Ty) (t2 : Trail) (es2 : List Equation) → Grows t t2 → Step t es l r t2 es2
+    → Remembers m t.0 (es ++ equal l r ∷ []) → Remembers m t2.0 es2
+remembers_step m t es l r t2 es2 e s h = record {
+  known = λ p k f a. h.known p k f (agrees_front t.0 t2.0 f e.extends a);
+  pending = each_step m.pending.items t es l r t2 es2 e s h.pending;
 }
 
 -- an equation of variables that the bindings make equal says nothing
-pub step_known : (place : List ℕ) (xs : List Bound) (v w : ℕ) (es : List Equation) → ((f : Sub) → Agrees f (bounds xs) → f v ≡ f w)
-    → EachBelow es (length place) → Step place xs es (var v) (var w) place xs es
-step_known place xs v w es k b = record {
+step_known : (t : Trail) (v w : ℕ) (es : List Equation) → ((f : Sub) → Agrees f (bindings t) → f v ≡ f w) → EachBelow es (variables t)
+    → Step t es (var v) (var w) t es
+step_known t v w es k b = record {
   there = λ f a s e. (a, s);
   back = λ n m f a s. (a, s, k f a);
-  fewer = steps_less (zeros place) (weight (bounds xs) es) (weight (bounds xs) (equal (var v) (var w) ∷ es))
-      (omega (arith, size_some (solution (bounds xs) v)));
+  fewer = steps_less (free t) (weight (bindings t) es) (weight (bindings t) (equal (var v) (var w) ∷ es)) (omega (arith, size_some (solution (bindings t) v)));
   below = b;
 }
 
@@ -128,29 +128,26 @@ remembers_settled m m2 p n xs es e o l k h =
     }
 
 -- an equation of what is known to be equal says nothing
-pub step_met : (m : Compared) (place : List ℕ) (xs : List Bound) (es es0 : List Equation) (l r : Ty) (v w : ℕ) → l ≡ var v → r ≡ var w
-    → ((ys : List Bound) (ds : List Equation) → Remembers m ys ds → (f : Sub) → Agrees f (bounds ys) → f v ≡ f w) → Remembers m xs es0
-    → EachBelow es (length place) → Step place xs es l r place xs es
-step_met m place xs es es0 l r v w a b k h e =
-    let P : Ty → Type 0 = λ x. Step place xs es x r place xs es in
-    let Q : Ty → Type 0 = λ x. Step place xs es (var v) x place xs es in
-    subst P (sym a) (subst Q (sym b) (step_known place xs v w es (k xs es0 h) e))
+pub turned_known : (m : Compared) (t : Trail) (es : List Equation) (l r : Ty) (v w : ℕ) → l ≡ var v → r ≡ var w
+    → ((ys : List Bound) (ds : List Equation) → Remembers m ys ds → (f : Sub) → Agrees f (bounds ys) → f v ≡ f w) → Remembers m t.0 (es ++ equal l r ∷ [])
+    → EachBelow es (variables t) → Turned (Ok true) t es l r t es
+turned_known m t es l r v w a b k h e =
+    let P : Ty → Type 0 = λ x. Step t es x r t es in
+    let Q : Ty → Type 0 = λ x. Step t es (var v) x t es in
+    (grows_same t, subst P (sym a) (subst Q (sym b) (step_known t v w es (k t.0 (es ++ equal l r ∷ []) h) e)))
 
-pub remembers_met : (m : Compared) (place : List ℕ) (xs : List Bound) (es : List Equation) (l r : Ty) → Step place xs es l r place xs es
-    → Remembers m xs (es ++ equal l r ∷ []) → Remembers m xs es
-remembers_met m place xs es l r s h = remembers_step m place xs es l r place xs es (extends_same xs) s h
-
-pub stepped : (done : Bool) (m : Compared) (place : List ℕ) (xs : List Bound) (es : List Equation) (l r : Ty) (place2 : List ℕ) (xs2 : List Bound)
-    (es2 : List Equation) → Extends xs xs2 → StepIs done place xs es l r place2 xs2 es2 → Remembers m xs (es ++ equal l r ∷ [])
-    → OnTrue done (Remembers m xs2 es2)
-stepped true m place xs es l r place2 xs2 es2 e s h = remembers_step m place xs es l r place2 xs2 es2 e s h
-stepped false m place xs es l r place2 xs2 es2 e s h = tt
+-- what is remembered, after a step that was made or not
+pub remembered_step : (d : Result Bool NoMemory) (m : Compared) (t : Trail) (es : List Equation) (l r : Ty) (t2 : Trail) (es2 : List Equation)
+    → Turned d t es l r t2 es2 → Remembers m t.0 (es ++ equal l r ∷ []) → Remembered d m t2.0 es2
+remembered_step (Ok true) m t es l r t2 es2 s h = remembers_step m t es l r t2 es2 s.0 s.1 h
+remembered_step (Ok false) m t es l r t2 es2 s h = tt
+remembered_step (Err d) m t es l r t2 es2 s h = tt
 
 -- after a step two variables are equal once the equations that it left are solved
-pub step_awaits : (place : List ℕ) (xs : List Bound) (es : List Equation) (l r : Ty) (place2 : List ℕ) (xs2 : List Bound) (es2 : List Equation) (v w n : ℕ)
-    → l ≡ var v → r ≡ var w → n ≤ length es → Step place xs es l r place2 xs2 es2 → (f : Sub) → Agrees f (bounds xs2) → Solves f (drop n es2) → f v ≡ f w
-step_awaits place xs es l r place2 xs2 es2 v w n a b k s f h q =
-    ap (λ x. on x f) (sym a) ∙ (s.back n k f h q).2 ∙ ap (λ x. on x f) b
+pub step_awaited : (t : Trail) (es : List Equation) (l r : Ty) (v w : ℕ) (t2 : Trail) (es2 : List Equation) (n : ℕ) → l ≡ var v → r ≡ var w → n ≤ length es
+    → Turned (Ok true) t es l r t2 es2 → Awaited v w n t2.0 es2
+step_awaited t es l r v w t2 es2 n a b k s f h q =
+    ap (λ x. on x f) (sym a) ∙ (s.1.back n k f h q).2 ∙ ap (λ x. on x f) b
 
 pub equations_long : (ps : List Pair) (n : ℕ) → n ≡ length ps → n ≤ length (equations ps)
 equations_long [] n e = omega (arith, e)
@@ -175,7 +172,5 @@ remembers_like m m2 xs es k e h = record {
   known = λ q i f a. h.known q (ap (λ z. contains same_pair z q) (sym k) ∙ i) f a;
   pending = (let P : List Pending → Type 0 = λ z. EachAwaits z xs es in subst P (sym e) h.pending);
 }
-
-pub ruleset turnings = (stepped, equations_most)
 
 pub ruleset comparisons = (known_one)

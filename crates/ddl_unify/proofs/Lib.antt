@@ -1,5 +1,4 @@
 pub mod Comparing
-pub mod Deref
 pub mod Equating
 pub mod Going
 pub mod Keeping

@@ -4,21 +4,20 @@ use Rattle.std.proofs.Common.{◌||◌, Bool, add-one, nat_eq, eqb-true, if◌th
 use Rattle.ddl_types.specs.declared.ty.Ty as program
 use Rattle.ddl_types.specs.Types.{Head, Ty, Ty.var, Ty.con, Tys.none, Tys.more, Sub, on, tys_of}
 use Rattle.ddl_types.specs.TyView.{ty_view}
-use Rattle.ddl_unify.specs.declared.store.Bound.{Bound}
-use Rattle.ddl_unify.specs.View.{bounds}
+use Rattle.ddl_unify.specs.declared.trail.Trail.{Trail}
 use Rattle.ddl_unify.specs.Occurs.{has}
-use Rattle.ddl_unify.specs.Bindings.{solution}
+use Rattle.ddl_unify.specs.Trails.{solution}
 use Rattle.ddl_unify.specs.Solving.{Marks, MarkedOne, list_has}
-use Rattle.ddl_unify.proofs.ReadingLemmas.{kept_read, kept_less, unbound_read}
+use Rattle.ddl_unify.proofs.ReadingLemmas.{leads_read, leads_less, unbound_read}
 
 -- no variable is marked at first
-pub marks_none : (seen : ℕ → Bool) (xs : List Bound) (v : ℕ) → ((n : ℕ) → seen n ≡ false) → Marks seen xs v
-marks_none seen xs v h m e = let q = h m in absurd (let z : false ≡ true = sym q ∙ e in cc)
+pub marks_none : (seen : ℕ → Bool) (t : Trail) (v : ℕ) → ((n : ℕ) → seen n ≡ false) → Marks seen t v
+marks_none seen t v h m e = let q = h m in absurd (let z : false ≡ true = sym q ∙ e in cc)
 
 -- a variable that was read without the one that is looked for may be marked
-pub marks_more : (seen seen2 : ℕ → Bool) (xs : List Bound) (v n : ℕ) → Marks seen xs v → MarkedOne seen seen2 n
-    → has (on (var n) (solution (bounds xs))) v ≡ false → Marks seen2 xs v
-marks_more seen seen2 xs v n k o z m e = elim (o m e) [ inl q ↦ ap (λ i. has (solution (bounds xs) i) v) q ∙ z | inr q ↦ k m q ]
+pub marks_more : (seen seen2 : ℕ → Bool) (t : Trail) (v n : ℕ) → Marks seen t v → MarkedOne seen seen2 n → has (on (var n) (solution t)) v ≡ false
+    → Marks seen2 t v
+marks_more seen seen2 t v n k o z m e = elim (o m e) [ inl q ↦ ap (λ i. has (solution t i) v) q ∙ z | inr q ↦ k m q ]
 
 -- one key more marks one variable more
 pub marked_one : (seen seen2 : ℕ → Bool) (n : ℕ) → ((m : ℕ) → seen2 m ≡ (if nat_eq n m then true else seen m)) → MarkedOne seen seen2 n
@@ -64,4 +63,4 @@ list_found (y ∷ xs) (suc i) x f v h e z = ap (λ b. has (on (ty_view y) f) v |
 
 pub ruleset markings = (marks_none)
 
-pub ruleset standings = (marks_more, has_one, has_two, has_list, list_next, list_found, kept_read, unbound_read)
+pub ruleset standings = (marks_more, has_one, has_two, has_list, list_next, list_found, leads_read, leads_less, unbound_read)

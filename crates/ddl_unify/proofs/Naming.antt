@@ -1,6 +1,7 @@
 -- The variables of a type as it is written, and which of them stand in types that others were bound to.
 use Rattle.std.proofs.Common.{◌≡◌, ◌≢◌, ℕ, ◌+◌, ◌<◌, ◌≤◌, List, [], ◌∷◌, ◌++◌, refl, sym, ap, ◌∙◌, arith, inl, inr, zero, suc, map, take, length, length-append}
 use Rattle.std.proofs.Common.{get_or, set, true, false, ◌||◌, Bool, add-one, ne_eqb, subst}
+use Rattle.std.specs.Bool.{OnFalse}
 use Rattle.std.proofs.lemmas.Bool.Decides.{eqb_tells}
 use Rattle.std.proofs.lemmas.List.{get_or-set_same, get_or-set_other, length-set}
 use Rattle.ddl_types.specs.declared.ty.Ty as program
@@ -11,7 +12,7 @@ use Rattle.ddl_unify.specs.View.{bounds, onto, bound_view}
 use Rattle.ddl_unify.specs.Occurs.{has, has_all, size, size_all, one}
 use Rattle.ddl_unify.specs.Bindings.{Binding, solution, Unbound}
 use Rattle.ddl_unify.specs.Named.{Absent, Named, Marked}
-use Rattle.ddl_unify.specs.Solving.{Extends}
+use Rattle.ddl_unify.specs.Trails.{Extends}
 use Rattle.ddl_unify.proofs.Stored.{bounds_more, onto_append}
 
 -- a map that gives each variable a type where v stands as it does in the variable alone
@@ -210,3 +211,7 @@ pub named_none : Named [] [] []
 named_none = record { long = omega arith; absent = λ v e. tt }
 
 pub ruleset writings = (written_one, written_two, written_in, written_next)
+
+pub on_false : (b : Bool) (P : Type 0) → OnFalse b P → b ≡ false → P
+on_false false P h e = h
+on_false true P h e = absurd (let q : true ≡ false = e in cc)

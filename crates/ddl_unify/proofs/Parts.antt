@@ -14,7 +14,7 @@ use Rattle.ddl_unify.specs.Equations.{Equation, equal, Solves, EachBelow, Apart}
 use Rattle.ddl_unify.specs.Bindings.{Binding, solution}
 use Rattle.ddl_unify.specs.Measures.{weight}
 use Rattle.ddl_unify.specs.Heads.{head_eq, long_as, alike, parts, IsCon, pairs}
-use Rattle.ddl_unify.specs.Kept.{Split}
+use Rattle.ddl_unify.specs.Solving.{Split}
 use Rattle.ddl_unify.proofs.Steps.{solves_append, solves_front, solves_back, pairs_solve}
 
 suc_eqb : (a b : ℕ) → (a == b) ≡ (suc a == suc b)

@@ -1,17 +1,21 @@
 -- The map that bindings stand for, and why reading a type ends.
 use Rattle.std.proofs.Common.{◌≡◌, ℕ, ◌+◌, ◌*◌, ◌<◌, ◌≤◌, List, [], ◌∷◌, refl, sym, ap, ◌∙◌, arith, inl, inr, map, length, get_or, zero, suc, MatchOption}
+use Rattle.std.proofs.Common.{Option, Some, None, subst}
 use Rattle.ddl_types.specs.declared.ty.Ty as program
-use Rattle.ddl_types.specs.Types.{Head, Ty, Tys, Ty.var, Ty.con, Tys.none, Tys.more, Sub, on, on_all, tys_of}
+use Rattle.ddl_types.specs.Types.{Head, Ty, Tys, Ty.var, Ty.con, Tys.none, Tys.more, Sub, on, on_all, tys_of, Below}
 use Rattle.ddl_types.specs.TyView.{ty_view}
 use Rattle.ddl_types.proofs.Mapping.{on_place}
 use Rattle.ddl_unify.specs.declared.store.Bound.{Bound}
 use Rattle.ddl_unify.specs.View.{bounds}
 use Rattle.ddl_unify.specs.Kept.{Kept}
-use Rattle.ddl_unify.specs.Solving.{Followed}
+use Rattle.ddl_unify.specs.Trails.{bindings, variables, LeadsTo}
+use Rattle.ddl_unify.specs.Trails.{solution as read_by}
+use Rattle.ddl_unify.specs.Solving.{Followed, IsEnd, Ends}
+use Rattle.ddl_unify.specs.declared.trail.Trail.{Trail}
 use Rattle.ddl_unify.specs.State.{IsFree}
-use Rattle.ddl_unify.specs.Occurs.{one, count, count_all, is_var}
+use Rattle.ddl_unify.specs.Occurs.{one, count, count_all, NoVar}
 use Rattle.ddl_unify.specs.Equations.{Equation, Solves, MostGeneral}
-use Rattle.ddl_unify.specs.Bindings.{Binding, solution, Agrees, Unbound, Binds, Sound}
+use Rattle.ddl_unify.specs.Bindings.{Binding, solution, Agrees, Unbound, Binds, Sound, ToBelow}
 use Rattle.ddl_unify.specs.Measures.{weighed, weighed_all, cost}
 use Rattle.ddl_unify.proofs.Sub.{on_same, on_on, one_kept, one_at, one_off, on_absent, count_self}
 
@@ -95,12 +99,23 @@ binds_less (b ∷ bs) v t w h =
 pub read_place : (bs : List Binding) (h : Head) (ts : List Ty) → on (con h (tys_of ts)) (solution bs) ≡ con h (tys_of (map (λ t. on t (solution bs)) ts))
 read_place bs h ts = on_place h ts (solution bs)
 
-pub kept_read : (place : List ℕ) (xs : List Bound) (v : ℕ) (t : Ty) → Kept place xs → Binds (bounds xs) v t
-    → solution (bounds xs) v ≡ on t (solution (bounds xs))
-kept_read place xs v t k h = binds_read (bounds xs) v t k.sound h
+binds_below : (bs : List Binding) (v : ℕ) (t : Ty) (n : ℕ) → Binds bs v t → ToBelow bs n → Below t n
+binds_below [] v t n h b = absurd h
+binds_below (d ∷ bs) v t n h b = elim h [ inl q ↦ (let P : Ty → Type 0 = λ x. Below x n in subst P q.1 b.0) | inr q ↦ binds_below bs v t n q b.1 ]
 
-pub kept_less : (place : List ℕ) (xs : List Bound) (v : ℕ) (t : Ty) → Kept place xs → Binds (bounds xs) v t → weighed t (cost (bounds xs)) < cost (bounds xs) v
-kept_less place xs v t k h = binds_less (bounds xs) v t k.sound h
+-- what a kept variable is bound to
+pub leads : (place : List ℕ) (xs : List Bound) (v : ℕ) (t : Ty) → Kept place xs → Binds (bounds xs) v t → LeadsTo (xs, length place) v t
+leads place xs v t k h = record {
+  same = binds_read (bounds xs) v t k.sound h;
+  lighter = binds_less (bounds xs) v t k.sound h;
+  below = binds_below (bounds xs) v t (length place) h k.below;
+}
+
+pub leads_read : (t : Trail) (v : ℕ) (u : Ty) → LeadsTo t v u → on u (read_by t) ≡ on (var v) (read_by t)
+leads_read t v u h = sym h.same
+
+pub leads_less : (t : Trail) (v : ℕ) (u : Ty) → LeadsTo t v u → weighed u (cost (bindings t)) < cost (bindings t) v
+leads_less t v u h = h.lighter
 
 -- a list's type weighs no more than the list
 pub weighed_at : (w : ℕ → ℕ) (xs : List program.Ty) (k : ℕ) (x : program.Ty) → k < length xs → x ≡ get_or xs k x
@@ -109,31 +124,46 @@ weighed_at w [] k x h e = absurd (omega arith)
 weighed_at w (y ∷ xs) zero x h e = omega (arith, ap (λ z. weighed (ty_view z) w) e)
 weighed_at w (y ∷ xs) (suc k) x h e = omega (arith, weighed_at w xs k x (omega arith) e)
 
-pub followed_first : (xs : List Bound) (t : Ty) → Followed xs t t
-followed_first xs t = record { same = refl; lighter = omega arith }
+pub followed_first : (t : Trail) (x : Ty) → Followed t x x
+followed_first t x = record { same = refl; lighter = omega arith }
 
-pub followed_more : (place : List ℕ) (xs : List Bound) (t u : Ty) (v : ℕ) (w : Ty) → Kept place xs → Followed xs t u → u ≡ var v → Binds (bounds xs) v w
-    → Followed xs t w
-followed_more place xs t u v w k f e h = record {
-  same = sym (kept_read place xs v w k h) ∙ ap (λ x. on x (solution (bounds xs))) (sym e) ∙ f.same;
-  lighter = omega (arith, kept_less place xs v w k h, f.lighter, ap (λ x. weighed x (cost (bounds xs))) e);
+pub followed_more : (t : Trail) (x u : Ty) (v : ℕ) (w : Ty) → Followed t x u → u ≡ var v → LeadsTo t v w → Followed t x w
+followed_more t x u v w f e h = record {
+  same = leads_read t v w h ∙ ap (λ y. on y (read_by t)) (sym e) ∙ f.same;
+  lighter = omega (arith, h.lighter, f.lighter, ap (λ y. weighed y (cost (bindings t))) e);
 }
 
-pub followed_read : (place : List ℕ) (xs : List Bound) (v : ℕ) (t u : Ty) → Kept place xs → Binds (bounds xs) v t → Followed xs t u
-    → on u (solution (bounds xs)) ≡ solution (bounds xs) v
-followed_read place xs v t u k h f = f.same ∙ sym (kept_read place xs v t k h)
+pub followed_read : (t : Trail) (v : ℕ) (x u : Ty) → LeadsTo t v x → Followed t x u → on u (read_by t) ≡ on (var v) (read_by t)
+followed_read t v x u h f = f.same ∙ sym h.same
 
-pub followed_less : (place : List ℕ) (xs : List Bound) (v : ℕ) (t u : Ty) → Kept place xs → Binds (bounds xs) v t → Followed xs t u
-    → weighed u (cost (bounds xs)) < cost (bounds xs) v
-followed_less place xs v t u k h f = omega (arith, kept_less place xs v t k h, f.lighter)
+pub followed_less : (t : Trail) (v : ℕ) (x u : Ty) → LeadsTo t v x → Followed t x u → weighed u (cost (bindings t)) < cost (bindings t) v
+followed_less t v x u h f = omega (arith, h.lighter, f.lighter)
 
 -- a chain ends in a type that the solution leaves a variable, or that is none
-pub ends_free : (xs : List Bound) (t : Ty) → MatchOption (is_var t) (Unit {0}) (λ v. Unbound v (bounds xs)) → IsFree t (solution (bounds xs))
-ends_free xs (var v) u = unbound_read (bounds xs) v u
-ends_free xs (con h ts) u = tt
+pub ends_free : (t : Trail) (x : Ty) → IsEnd t x → IsFree x (read_by t)
+ends_free t (var v) u = unbound_read (bindings t) v u
+ends_free t (con h ts) u = tt
 
-pub ruleset reads = (read_place, unbound_read, kept_read, kept_less, followed_read, followed_less)
+-- what a type is read as that is a variable: itself, or what it leads to
+pub ends_var : (t : Trail) (x : Ty) (v : ℕ) → x ≡ var v → Unbound v (bindings t) → Ends t x v
+ends_var t x v e u = record {
+  free = u;
+  same = ap (λ y. on y (read_by t)) e;
+  within = let P : Ty → Type 0 = λ y. Below y (variables t) in λ b. subst P e b;
+}
 
-pub ruleset follows = (followed_first, followed_more, kept_less)
+pub ends_there : (t : Trail) (x : Ty) (v : ℕ) (u : Ty) (o : Option ℕ) → x ≡ var v → LeadsTo t v u → MatchOption o (NoVar (on u (read_by t))) (Ends t u)
+    → MatchOption o (NoVar (on x (read_by t))) (Ends t x)
+ends_there t x v u None e h m =
+    let P : Ty → Type 0 = λ y. NoVar y in subst P (leads_read t v u h ∙ ap (λ y. on y (read_by t)) (sym e)) m
+ends_there t x v u (Some w) e h m = record {
+  free = m.free;
+  same = ap (λ y. on y (read_by t)) e ∙ h.same ∙ m.same;
+  within = λ b. m.within h.below;
+}
+
+pub ruleset reads = (read_place, unbound_read, leads_read, leads_less, followed_read, followed_less, ends_var, ends_there)
+
+pub ruleset follows = (followed_first, followed_more, leads_less)
 
 pub ruleset ends = (ends_free)

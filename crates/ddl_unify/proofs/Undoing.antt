@@ -1,12 +1,16 @@
 -- Bindings taken back.
-use Rattle.std.proofs.Common.{◌≡◌, ℕ, ◌<◌, List, [], ◌∷◌, ◌++◌, refl, sym, ap, ◌∙◌, arith, zero, suc, get_or, set, length, inl, inr, ◌⊎◌, subst}
+use Rattle.std.proofs.Common.{◌≡◌, ℕ, ◌<◌, List, [], ◌∷◌, ◌++◌, refl, sym, ap, ◌∙◌, arith, zero, suc, get_or, set, length, inl, inr, ◌⊎◌, subst, ◌≢◌}
+use Rattle.std.proofs.Common.{ne_eqb, length-append, ◌≤◌}
 use Rattle.std.proofs.lemmas.Bool.Decides.{eqb_tells, leb_tells}
 use Rattle.std.proofs.lemmas.List.{get_or-set_same, get_or-set_other, length-set}
 use Rattle.ddl_unify.specs.declared.store.Bound.{Bound}
 use Rattle.ddl_unify.specs.View.{bounds, bound_view}
 use Rattle.ddl_unify.specs.Bindings.{Binding, Sound, Unbound, ToBelow}
 use Rattle.ddl_unify.specs.Kept.{Kept, IsFrom}
-use Rattle.ddl_unify.specs.Solving.{Extends, Fine, Unchanged}
+use Rattle.ddl_unify.specs.Measures.{zeros}
+use Rattle.ddl_unify.specs.Trails.{Grows, Back}
+use Rattle.ddl_unify.specs.declared.trail.Trail.{Trail}
+use Rattle.ddl_unify.proofs.Keeping.{grows_then}
 use Rattle.ddl_unify.proofs.Stored.{bounds_more, get_past}
 
 from_front : (ys : List Bound) (x : Bound) (k v : ℕ) → IsFrom k v (ys ++ x ∷ []) → IsFrom k v ys ⊎ (x.from ≡ v)
@@ -22,6 +26,15 @@ undo_within place xs ys x e k =
       | inl q ↦ absurd ((subst (Unbound x.from) (bounds_more ys xs x e) (k.unbound x.from (get_past place x.from (omega (arith, q.1))))).0 refl)
       | inr q ↦ q.1
     ]
+
+-- the variable that was bound last has a place
+undo_place : (place : List ℕ) (xs ys : List Bound) (x : Bound) → xs ≡ ys ++ x ∷ [] → Kept place xs → get_or place x.from 0 ≢ 0
+undo_place place xs ys x e k z = (subst (Unbound x.from) (bounds_more ys xs x e) (k.unbound x.from z)).0 refl
+
+zeros_unset : (place : List ℕ) (v : ℕ) → v < length place → get_or place v 0 ≢ 0 → zeros (set place v 0) ≡ suc (zeros place)
+zeros_unset [] v h e = absurd (omega arith)
+zeros_unset (p ∷ place) zero h e = rw (ne_eqb p 0 e) (omega arith)
+zeros_unset (p ∷ place) (suc v) h e = omega (arith, zeros_unset place v (omega arith) e)
 
 pub undo_kept : (place : List ℕ) (xs ys : List Bound) (x : Bound) → xs ≡ ys ++ x ∷ [] → Kept place xs → Kept (set place x.from 0) ys
 undo_kept place xs ys x e k =
@@ -39,6 +52,14 @@ undo_kept place xs ys x e k =
         | inr p ↦ elim (from_front ys x j v (subst (IsFrom j v) e (k.bound v j (sym (get_or-set_other place x.from v 0 0 p.1) ∙ q))))
             [ inl f ↦ f | inr f ↦ absurd (p.1 (sym f)) ]
       ];
+      counted = omega (
+        arith,
+        zeros_unset place x.from (undo_within place xs ys x e k) (undo_place place xs ys x e k),
+        length-set place x.from 0,
+        ap length e,
+        length-append ys (x ∷ []),
+        k.counted,
+      );
       below = let P : ℕ → Type 0 = λ i. ToBelow (bounds ys) i in
           let Q : List Binding → Type 0 = λ bs. ToBelow bs (length place) in
           subst P (sym (length-set place x.from 0)) (subst Q e2 k.below).1;
@@ -51,6 +72,16 @@ same_front [] (y ∷ b) m n e h = absurd (omega arith)
 same_front (x ∷ a) [] m n e h = absurd (omega arith)
 same_front (x ∷ a) (y ∷ b) m n e h = let r = same_front a b m n (cc) (omega arith) in let q : x ≡ y = cc in cc
 
-pub unchanged : (p p1 p2 : List ℕ) (a b c : List Bound) → Fine p p1 a b → Kept p2 c → length p2 ≡ length p1 → length c ≡ length a → Extends c b
-    → Unchanged p p2 a c
-unchanged p p1 p2 a b c f k l n x = record { kept = k; long = l ∙ f.long; same = same_front c a x.more f.extends.more (sym x.is ∙ f.extends.is) n }
+-- what was bound since is taken back, and all is as it was
+pub back_same : (n : ℕ) (t t1 t2 : Trail) → Grows t t1 → Back n t1 t2 → n ≡ length t.0 → t2 ≡ t
+back_same n t t1 t2 g b e =
+    let a : t2.0 ≡ t.0 = same_front t2.0 t.0 b.grows.extends.more g.extends.more (sym b.grows.extends.is ∙ g.extends.is) (b.shorter ∙ e) in
+    let c : t2.1 ≡ t.1 = sym b.grows.same ∙ g.same in
+    ap (λ (z : List Bound). (z, t2.1)) a ∙ ap (λ (z : ℕ). (t.0, z)) c
+
+-- one binding taken back after others
+pub back_then : (n : ℕ) (t t1 t2 : Trail) → Grows t1 t → Back n t1 t2 → Grows t2 t
+back_then n t t1 t2 g b = grows_then t2 t1 t b.grows g
+
+pub grows_long : (t t2 : Trail) → Grows t t2 → length t.0 ≤ length t2.0
+grows_long t t2 g = omega (arith, ap length g.extends.is, length-append t.0 g.extends.more)

@@ -43,3 +43,7 @@ abbrev pub pairs : Tys → Tys → List Equation
 pairs none rs = []
 pairs (more l ls) none = []
 pairs (more l ls) (more r rs) = pairs ls rs ++ equal l r ∷ []
+
+-- the type of maps
+abbrev pub map_type : Ty → Ty → Ty
+map_type k v = con map_of (more k (more v none))

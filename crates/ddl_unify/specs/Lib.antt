@@ -2,6 +2,7 @@ pub mod Bindings
 pub mod Comparing
 pub mod Equations
 pub mod Heads
+pub mod Holding
 pub mod Kept
 pub mod Measures
 pub mod Named
@@ -9,4 +10,5 @@ pub mod Occurs
 pub mod Refused
 pub mod Solving
 pub mod State
+pub mod Trails
 pub mod View

@@ -1,5 +1,5 @@
 -- Where variables stand in a type, and how large it is.
-use Rattle.std.specs.Prelude.{ℕ, ◌+◌, ◌==◌, ◌||◌, if◌then◌else◌, Bool, false, Option, Some, None}
+use Rattle.std.specs.Prelude.{◌≡◌, ℕ, ◌+◌, ◌==◌, ◌||◌, if◌then◌else◌, Bool, false, Option, Some, None}
 use Rattle.ddl_types.specs.Types.{Ty, Ty.var, Ty.con, Tys, Tys.none, Tys.more, Sub}
 
 -- how often a variable stands in a type
@@ -40,3 +40,7 @@ one v s n = if n == v then s else var n
 abbrev pub is_var : Ty → Option ℕ
 is_var (var v) = Some v
 is_var (con h ts) = None
+
+-- a type that is no variable
+abbrev pub NoVar : Ty → Type 0
+NoVar x = is_var x ≡ None

@@ -1,15 +1,12 @@
 //! The pairs of variables that were compared, so that none is compared twice.
 
-ghost use Rattle.std.specs.Prelude.{◌≡◌, ◌≤◌, ◌<◌, ◌+◌, ◌∷◌, ◌++◌, [], List, OnOk, MatchOption, length, drop};
+ghost use Rattle.std.specs.Prelude.{◌≡◌, ◌≤◌, ◌<◌, ◌+◌, ◌∷◌, ◌++◌, [], List, OnOk, MatchOption, length};
 ghost use Rattle.std.specs.Bool.{OnTrue};
 ghost use Rattle.std.specs.HashSet.{contains};
-ghost use Rattle.ddl_types.specs.Types.{Sub};
 ghost use Rattle.ddl_unify.specs.declared.store.Bound.{Bound};
 ghost use Rattle.ddl_unify.specs.declared.compared.Pending.{Pending};
-ghost use Rattle.ddl_unify.specs.Equations.{Equation, Solves};
-ghost use Rattle.ddl_unify.specs.Bindings.{Agrees};
-ghost use Rattle.ddl_unify.specs.View.{bounds};
-ghost use Rattle.ddl_unify.specs.Comparing.{same_pair, Remembers, KnownOne};
+ghost use Rattle.ddl_unify.specs.Equations.{Equation};
+ghost use Rattle.ddl_unify.specs.Comparing.{same_pair, Remembers, KnownOne, AreEqual, Carries, MayAwait};
 
 use ddl_base::NoMemory;
 use std::alloc::Global;
@@ -50,8 +47,8 @@ fn is_settled(pending: &[Pending], n: usize) -> bool
 
 /// Takes the last pair, if it was being made equal by none of the first n + 1 equations.
 fn pop_settled(pending: &mut Vec<Pending>, n: usize) -> Option<Pending>
-    ensures { MatchOption result (pending.new.items ≡ pending.old.items) (λ p.
-        (pending.old.items ≡ pending.new.items ++ p ∷ []) × (n < p.above)) }
+    ensures { MatchOption result (pending.new.items ≡ pending.old.items)
+        (λ p. (pending.old.items ≡ pending.new.items ++ p ∷ []) × (n < p.above)) }
 {
     if is_settled(pending, n) {
         pending.pop()
@@ -74,8 +71,8 @@ impl Compared {
 
     /// Whether two variables are one, or were made equal.
     pub fn knows(&self, left: u32, right: u32) -> bool
-        ensures { OnTrue result ((xs : List Bound) (es : List Equation) → Remembers self.now xs es → (f : Sub)
-            → Agrees f (bounds xs) → f left ≡ f right) }
+        ensures { OnTrue result ((xs : List Bound) (es : List Equation) → Remembers self.now xs es →
+            AreEqual left right xs) }
     {
         if left == right {
             return true;
@@ -85,9 +82,8 @@ impl Compared {
 
     /// Two variables are equal once the equations above the given number of them are solved.
     pub fn expect(&mut self, left: u32, right: u32, above: usize) -> Result<(), NoMemory>
-        ensures { OnOk result ((xs : List Bound) (es : List Equation) → Remembers self.old xs es
-            → ((f : Sub) → Agrees f (bounds xs) → Solves f (drop above es) → f left ≡ f right)
-            → Remembers self.new xs es) }
+        ensures { OnOk result ((xs : List Bound) (es : List Equation) →
+            MayAwait left right above self.old self.new xs es) }
     {
         self.pending.push(Pending { left, right, above })?;
         Ok(())
@@ -95,8 +91,8 @@ impl Compared {
 
     /// Keeps as made equal those pairs of which no equation is left, of n + 1.
     pub fn settle(&mut self, n: usize) -> Result<(), NoMemory>
-        ensures { OnOk result ((xs : List Bound) (es : List Equation) → length es ≤ n + 1 → Remembers self.old xs es
-            → Remembers self.new xs es) }
+        ensures { OnOk result ((xs : List Bound) (es : List Equation) → length es ≤ n + 1 →
+            Carries self.old self.new xs es) }
     {
         while let Some(last) = pop_settled(&mut self.pending, n) {
             know(&mut self.known, last.left, last.right)?;

@@ -9,6 +9,7 @@ mod refusal;
 mod solver;
 mod solving;
 mod store;
+mod trail;
 mod written;
 
 pub use refusal::EquateError;

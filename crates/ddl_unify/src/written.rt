@@ -38,7 +38,7 @@ fn holds_any(ts: &[Ty], v: u32) -> bool
 }
 
 /// Whether a variable is marked.
-pub fn is_named(named: &[bool], v: u32) -> bool
+pub fn is_marked(named: &[bool], v: u32) -> bool
     ensures { result ≡ get_or named.now v false }
 {
     match named.get(v as usize) {
@@ -50,7 +50,7 @@ pub fn is_named(named: &[bool], v: u32) -> bool
 /// Marks each variable of a type.
 #[cycle(mark)]
 #[tactic(auto, using(ddl_types::proofs::TyLayers::layers, crate::proofs::Naming::writings))]
-pub fn mark(t: &Ty, named: &mut [bool])
+fn mark(t: &Ty, named: &mut [bool])
     requires { Below (ty_view t.now) (length named.old) }
     ensures { Marked (has (ty_view t.now)) named.old named.new }
 {
@@ -65,6 +65,14 @@ pub fn mark(t: &Ty, named: &mut [bool])
         Ty::Place(_, ts) => mark_all(ts, named),
         _ => {}
     }
+}
+
+/// The same in a vector of marks.
+pub fn mark_in(t: &Ty, named: &mut Vec<bool>)
+    requires { Below (ty_view t.now) (length named.old.items) }
+    ensures { Marked (has (ty_view t.now)) named.old.items named.new.items }
+{
+    mark(t, named);
 }
 
 #[cycle(mark)]

@@ -1,7 +1,7 @@
 use Rattle.ddl_types.specs.TyView.{ty_view}
 use Rattle.ddl_unify.specs.Measures.{weighed, cost}
-use Rattle.ddl_unify.specs.View.{bounds}
+use Rattle.ddl_unify.specs.Trails.{bindings}
 use Rattle.ddl_unify.proofs.reading.+unbound.Given as goal
 
 abbrev pub decreases-unbound : goal.decreases-unbound
-decreases-unbound l = weighed (ty_view l.t.now) (cost (bounds l.trail.now))
+decreases-unbound l = weighed (ty_view l.t.now) (cost (bindings l.trail.now))

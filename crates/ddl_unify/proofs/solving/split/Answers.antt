@@ -1,7 +1,7 @@
 use Rattle.std.proofs.Common.{List, sym, ◌∙◌, subst}
 use Rattle.ddl_types.specs.TyView.{ty_view}
 use Rattle.ddl_unify.specs.Equations.{Equation}
-use Rattle.ddl_unify.specs.Kept.{Split}
+use Rattle.ddl_unify.specs.Solving.{Split}
 use Rattle.ddl_unify.specs.View.{equations}
 use Rattle.ddl_unify.proofs.Parts.{apart, split}
 use Rattle.ddl_unify.proofs.solving.split.Goals as goal

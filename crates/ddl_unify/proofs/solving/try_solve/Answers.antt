@@ -1,39 +1,34 @@
-use Rattle.std.proofs.Common.{◌≡◌, ◌∷◌, ◌∙◌, sym, ap, [], List, length, rules, subst, Bool, ◌++◌}
-use Rattle.ddl_types.specs.Types.{on}
+use Rattle.std.proofs.Common.{◌≡◌, ◌∷◌, [], length, rules, subst, Bool, Ok, arith}
 use Rattle.ddl_types.specs.TyView.{ty_view}
-use Rattle.ddl_unify.specs.declared.store.Pair.{Pair}
-use Rattle.ddl_unify.specs.Equations.{Equation, Solves, equal}
-use Rattle.ddl_unify.specs.Kept.{SolvedIs}
-use Rattle.ddl_unify.specs.View.{bounds, equations}
-use Rattle.ddl_unify.proofs.Naming.{named_front}
-use Rattle.ddl_unify.proofs.Undoing.{unchanged}
+use Rattle.ddl_unify.specs.Equations.{equal}
+use Rattle.ddl_unify.specs.Solving.{Settled}
+use Rattle.ddl_unify.proofs.Undoing.{back_same, grows_long}
 use Rattle.ddl_unify.proofs.solving.try_solve.Goals as goal
+
+pub returns-in-Ok-true : goal.returns-in-Ok-true
+returns-in-Ok-true c =
+    let P : Bool → Type 0 = λ b. Settled (Ok b) c.args.trail.now (equal (ty_view c.args.left.now) (ty_view c.args.right.now) ∷ []) c.solve_one.new.trail in
+    let s = subst P c.in-Ok-true.field-0-test c.in-Ok-true.ensures in (s.0, c.law.ensures.sound, s.1)
+
+pub undo-requires : goal.undo-requires
+undo-requires c =
+    let P : Bool → Type 0 = λ b. Settled (Ok b) c.args.trail.now (equal (ty_view c.args.left.now) (ty_view c.args.right.now) ∷ []) c.solve_one.new.trail in
+    let s = subst P c.in-Ok-false.field-0-test c.in-Ok-false.ensures in
+    let n : c.len-n.result ≡ length c.args.trail.now.0 = search rules in
+    omega (arith, n, grows_long c.args.trail.now c.solve_one.new.trail s.0)
 
 pub returns-in-Ok-false : goal.returns-in-Ok-false
 returns-in-Ok-false c =
-    let P : Bool → Type 0 = λ d. SolvedIs d (bounds c.args.trail.now.items) (equations c.push.new.self.items) (bounds c.solve-done.new.trail.items) in
-    let s = subst P c.in-Ok-false.field-0-test c.in-Ok-false.ensures.solved in
-    let e : equations c.push.new.self.items ≡ equal (ty_view c.in_ok-left.left) (ty_view c.in_ok-right.right) ∷ [] =
-    ap equations (c.in_ok-push.ensures.items ∙ ap (λ (z : List Pair). z ++ record { left = c.in_ok-left.left; right = c.in_ok-right.right } ∷ [])
-    c.new-stack.ensures.items) in
-    let n : length c.undo.new.trail.items ≡ length c.args.trail.now.items = search rules in
-    record {
-      named = named_front c.solve-done.new.named c.solve-done.new.place.items c.undo.new.place.items c.solve-done.new.trail.items c.undo.new.trail.items
-          c.undo.ensures.extends c.undo.ensures.long c.in-Ok-false.ensures.named;
-      tried = (
-        unchanged c.args.place.now.items c.solve-done.new.place.items c.undo.new.place.items c.args.trail.now.items c.solve-done.new.trail.items
-            c.undo.new.trail.items c.in-Ok-false.ensures.fine c.undo.ensures.kept c.undo.ensures.long n c.undo.ensures.extends,
-        λ f a q. s f a (let Q : List Equation → Type 0 = λ z. Solves f z
-            in subst Q (sym e) (ap (λ x. on x f) c.in_ok-left.ensures ∙ q ∙ sym (ap (λ x. on x f) c.in_ok-right.ensures), tt)),
-      );
-    }
+    let P : Bool → Type 0 = λ b. Settled (Ok b) c.args.trail.now (equal (ty_view c.args.left.now) (ty_view c.args.right.now) ∷ []) c.solve_one.new.trail in
+    let s = subst P c.in-Ok-false.field-0-test c.in-Ok-false.ensures in
+    let n : c.len-n.result ≡ length c.args.trail.now.0 = search rules in
+    (back_same c.len-n.result c.args.trail.now c.solve_one.new.trail c.undo.new.self s.0 c.undo.ensures n, λ f a q. s.1 f a (q, tt))
+
+pub undo-requires-in-Err : goal.undo-requires-in-Err
+undo-requires-in-Err c =
+    let n : c.len-n.result ≡ length c.args.trail.now.0 = search rules in omega (arith, n, grows_long c.args.trail.now c.solve_one.new.trail c.in-Err.ensures)
 
 pub returns-in-Err : goal.returns-in-Err
 returns-in-Err c =
-    let n : length c.undo-in-Err.new.trail.items ≡ length c.args.trail.now.items = search rules in
-    record {
-      named = named_front c.solve-done.new.named c.solve-done.new.place.items c.undo-in-Err.new.place.items c.solve-done.new.trail.items
-          c.undo-in-Err.new.trail.items c.undo-in-Err.ensures.extends c.undo-in-Err.ensures.long c.in-Err.ensures.named;
-      tried = unchanged c.args.place.now.items c.solve-done.new.place.items c.undo-in-Err.new.place.items c.args.trail.now.items c.solve-done.new.trail.items
-          c.undo-in-Err.new.trail.items c.in-Err.ensures.fine c.undo-in-Err.ensures.kept c.undo-in-Err.ensures.long n c.undo-in-Err.ensures.extends;
-    }
+    let n : c.len-n.result ≡ length c.args.trail.now.0 = search rules in
+    back_same c.len-n.result c.args.trail.now c.solve_one.new.trail c.undo-in-Err.new.self c.in-Err.ensures c.undo-in-Err.ensures n
