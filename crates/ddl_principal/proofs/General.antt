@@ -76,6 +76,10 @@ class_made_next (cls.Set c s) env z = class_made_next c env z
 
 class_next : (e : ex.Expr) (env : Env) (z : State) → z.next ≡ (class_argument e env z).state.next
 class_next (ex.Class x) env z = refl
+class_next (ex.Upper x) env z = refl
+class_next (ex.Lower x) env z = refl
+class_next (ex.CallGrammar x xs s) env z = refl
+class_next (ex.CallValue x xs s) env z = refl
 class_next (ex.Set c s) env z = class_made_next c env z
 class_next (ex.Paren a u s) env z = class_next a env z
 class_next e env z = refl

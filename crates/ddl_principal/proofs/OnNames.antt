@@ -27,7 +27,8 @@ use Rattle.ddl_typing.specs.Replaced.{all_known_on, env_on, typed_on, args_on, c
 use Rattle.ddl_typing.specs.Typed.{Typed, TypedArgs, typed, tree_of}
 use Rattle.ddl_typing.specs.Closed.{EachIsBelow, EachConditionBelow, ClosesBy, Closes, AreClosed}
 use Rattle.ddl_typing.specs.Names.{OneClass, at_types, condition_at, builtin_known, local_known, target, wanted_at, next_kind, before_argument, class_argument}
-use Rattle.ddl_typing.specs.Names.{an_argument, behind_argument, types_first, calling, local_form, named_form, noted, a_named, of_bound, bound_vars}
+use Rattle.ddl_typing.specs.Names.{class_of_name, an_argument, behind_argument, types_first, calling, local_form, named_form, noted, a_named, of_bound}
+use Rattle.ddl_typing.specs.Names.{bound_vars}
 use Rattle.ddl_principal.proofs.Lists.{asks_append, same_typed, option_local, local_found}
 
 -- ---- schemes at types
@@ -348,9 +349,16 @@ of_class m = record { class = m.class; asks = m.asks; state = m.state }
 abbrev no_class : State → OneClass
 no_class z = record { class = t.class_parameter 0; asks = []; state = z }
 
+class_of_name_on : (env : Env) (z : State) (f : Sub) → class_on (class_of_name env z) f ≡ class_of_name (env_on env f) (state_on z f)
+class_of_name_on env z f = ap (λ c. let m : OneClass = record { class = c; asks = []; state = state_on (class_of_name env z).state f } in m)
+    (sym (named_class_on (bound_next z.uses) env f))
+
 pub class_argument_on : (e : ex.Expr) (env : Env) (z : State) (f : Sub) → class_on (class_argument e env z) f ≡ class_argument e (env_on env f) (state_on z f)
-class_argument_on (ex.Class x) env z f = ap (λ c. let m : OneClass =
-    record { class = c; asks = []; state = state_on (class_argument (ex.Class x) env z).state f } in m) (sym (named_class_on (bound_next z.uses) env f))
+class_argument_on (ex.Class x) env z f = class_of_name_on env z f
+class_argument_on (ex.Upper x) env z f = class_of_name_on env z f
+class_argument_on (ex.Lower x) env z f = class_of_name_on env z f
+class_argument_on (ex.CallGrammar x xs s) env z f = class_of_name_on env z f
+class_argument_on (ex.CallValue x xs s) env z f = class_of_name_on env z f
 class_argument_on (ex.Set c s) env z f = ap of_class (class_made_on c env z f)
 class_argument_on (ex.Paren a u s) env z f = class_argument_on a env z f
 class_argument_on e env z f = refl

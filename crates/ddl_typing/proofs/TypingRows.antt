@@ -181,3 +181,35 @@ call_asks = refl
 call_tree : call.trees ≡ t.expr (t.value_call 0 (t.by_type 0 (var 1)
     (t.by_type 1 (var 2) (t.by_value 0 (t.expr (t.literal 1) (var 3) (place 13 14)) t.no_args)))) (con array_of (more (var 2) none)) (place 11 14) ∷ []
 call_tree = refl
+
+-- ---- `def v = v.x.y`: each `.x` has a free type of its own, and what it asks stands before what its part asks
+
+abbrev fields : TypedGroup
+fields = alone (use_at 8 9 (Decl 0) ∷ [])
+    (ex.Select (ex.Select (ex.Lower (name (codes "v") 8 9)) (name (codes "x") 10 11) (place 8 11)) (name (codes "y") 12 13) (place 8 13))
+
+fields_asks : fields.asks ≡ wants (var 0) (var 2) (place 8 13) ∷ asks_for (field (var 1) (codes "y") (var 2)) (place 8 13)
+    ∷ asks_for (field (var 0) (codes "x") (var 1)) (place 8 11) ∷ []
+fields_asks = refl
+
+-- ---- `def F = P ($d) Q`: a name in an argument for a class takes its use, so the next argument has its own
+
+abbrev taking : Known
+taking = record { vars = 0; kinds = k.Class ∷ k.Grammar ∷ []; params = byte ∷ var 0 ∷ []; of = var 0; conditions = [] }
+
+abbrev class_call : TypedGroup
+class_call = elaborated_group (record {
+  locals = [];
+  of = var 0;
+  header = [];
+  uses = use_at 8 9 (Decl 1) ∷ use_at 11 13 (Decl 2) ∷ use_at 15 16 (Decl 3) ∷ [];
+  tree =
+      ex.CallGrammar (name (codes "P") 8 9) (ex.an_expr (ex.Paren (ex.Class (name (codes "d") 11 13)) None (place 10 14))
+      (ex.an_expr (ex.Upper (name (codes "Q") 15 16)) ex.no_exprs)) (place 8 16);
+} ∷ [])
+    (λ d. taking) (record { uses = []; next = 1; places = []; texts = []; sites = 0 })
+
+class_call_tree : class_call.trees ≡ t.expr (t.call 1 (t.by_class 0 (t.declared 2) (t.by_grammar 1
+    (record { place = 0; values = []; grammars = []; classes = []; types = [] }) (t.expr (t.call 3 t.no_args) (var 0) (place 15 16)) t.no_args)))
+    (var 0) (place 8 16) ∷ []
+class_call_tree = refl

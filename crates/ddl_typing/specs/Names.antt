@@ -80,8 +80,17 @@ pub record OneClass : Type 0 where
   pub asks : List Ask
   pub state : State
 
+-- a name takes the next use, as it does in any other place
+abbrev pub class_of_name : Env → State → OneClass
+class_of_name env z = record { class = named_class env (bound_next z.uses); asks = []; state = after_use z }
+
+-- a class has no arguments, so of a name with some only the name is read
 abbrev pub class_argument : ex.Expr → Env → State → OneClass
-class_argument (ex.Class x) env z = record { class = named_class env (bound_next z.uses); asks = []; state = after_use z }
+class_argument (ex.Class x) env z = class_of_name env z
+class_argument (ex.Upper x) env z = class_of_name env z
+class_argument (ex.Lower x) env z = class_of_name env z
+class_argument (ex.CallGrammar x xs s) env z = class_of_name env z
+class_argument (ex.CallValue x xs s) env z = class_of_name env z
 class_argument (ex.Set c s) env z = let r = class_made c env z in record { class = r.class; asks = r.asks; state = r.state }
 class_argument (ex.Paren a u s) env z = class_argument a env z
 class_argument e env z = record { class = t.class_parameter 0; asks = []; state = z }
