@@ -1,0 +1,4 @@
+pub mod Done
+pub mod Members
+pub mod Steps
+pub mod Turns
