@@ -1,14 +1,14 @@
 -- Worked rows: each condition where it holds, where it is false, and where it is kept or left.
-use Rattle.std.proofs.Common.{arith, ◌≡◌, ℕ, List, [], ◌∷◌, Bool, true, false, Option, Some, None, refl}
+use Rattle.std.proofs.Common.{arith, ◌≡◌, ℕ, [], ◌∷◌, Bool, true, false, Some, None, refl, inl, inr}
 use Rattle.std.specs.Prelude.{codes}
-use Rattle.ddl_base.specs.declared.span.Span.{Span}
 use Rattle.ddl_types.specs.Types.{Ty, var, con, none, more, int, uint, sint, bool, unit, array_of, map_of, bits, place}
-use Rattle.ddl_types.specs.Conditions.{Condition, num, word, lit, key, lossless, cut, fit, cat, field, tag, loops}
+use Rattle.ddl_types.specs.Conditions.{num, word, lit, key, lossless, cut, fit, cat, field, tag, loops}
 use Rattle.ddl_judging.specs.declared.refusal.Wanted.TheVariants as w
-use Rattle.ddl_judging.specs.Demands.{Asked, Demand, condition, make, gather, may_be_kept}
+use Rattle.ddl_judging.specs.Demands.{Asked, Demand, condition, make, gather}
 use Rattle.ddl_judging.specs.Judging.{Judged, holds, undecided, false_for, not_number, not_lossless, no_field, literal_range, width_range, gap, IsUnknown}
 use Rattle.ddl_judging.specs.Shapes.{Shapes}
 use Rattle.ddl_conditions.specs.Growing.{Group}
+use Rattle.ddl_conditions.specs.InDemand.{InType}
 use Rattle.ddl_conditions.specs.Settled.{IsKept, IsLeft}
 use Rattle.ddl_conditions.specs.Standing.{Shows, Stands}
 
@@ -161,27 +161,131 @@ loops_over_number = refl
 gather_open : IsOpen (gather (var 0) (var 1) (var 2) (var 3) (var 4))
 gather_open = refl
 
+-- ---- demands that hold, are false or are open, where none of these rows says so above
+
+word_open : IsOpen (condition (word (var 0)))
+word_open = refl
+
+lit_open : IsOpen (condition (lit 1 (var 0)))
+lit_open = refl
+
+key_open : IsOpen (condition (key (var 0)))
+key_open = refl
+
+-- a cast waits for both types
+lossless_open : IsOpen (condition (lossless (var 0) byte))
+lossless_open = IsUnknown.unknown (λ e. let q : var 0 ≡ byte = e in absurd (cc))
+
+cut_open : IsOpen (condition (cut (var 0) byte))
+cut_open = refl
+
+field_open : IsOpen (condition (field (var 0) (codes "x") (var 1)))
+field_open = refl
+
+tag_open : IsOpen (condition (tag (var 0) (codes "t") (var 1)))
+tag_open = refl
+
+made_union : Holds (make (con (place 1) none) (codes "t") (var 0))
+made_union = refl
+
+made_record : Judged shapes (make (con (place 0) none) (codes "x") (var 0)) (false_for (no_field (codes "x") (con (place 0) none)))
+made_record = refl
+
+made_open : IsOpen (make (var 0) (codes "t") (var 1))
+made_open = refl
+
+loops_open : IsOpen (condition (loops (var 0) (var 1) (var 2)))
+loops_open = refl
+
+gather_holds : Holds (gather (con array_of (more byte none)) (var 0) (var 1) (var 2) (var 3))
+gather_holds = refl
+
+gather_false : Judged shapes (gather truth (var 0) (var 1) (var 2) (var 3)) (false_for (not_number truth w.Loop))
+gather_false = refl
+
 -- ---- kept and left: in a group whose one type is `?0`
 
 abbrev group : Bool → Group
 group with_parameters = record { shapes = shapes; asked = []; roots = var 0 ∷ []; with_parameters = with_parameters }
 
-abbrev asked : Condition → Asked
-asked c = record { what = condition c; span = record { «module» = 0; from = 0; to = 1 } }
+abbrev asked : Demand → Asked
+asked d = record { what = d; span = record { «module» = 0; from = 0; to = 1 } }
 
--- a number of the type itself is kept, where each declaration has parameters
-num_kept : IsKept (group true) var (asked (num (var 0)))
-num_kept = record {
-  neither = refl;
+-- the variable of the type itself stands there
+stands : (v : ℕ) → InType v (var 0) → Stands shapes (var 0 ∷ []) var v
+stands v e = record { where_ = var 0; shown = Shows.root (0, omega arith, refl); there = e }
+
+-- a type without variables has none that would have to
+no_variable : {A : Type 0} → false ≡ true → A
+no_variable e = let q : false ≡ true = e in absurd (cc)
+
+-- each of seven conditions on `?0` is kept, where each declaration has parameters
+
+num_kept : IsKept (group true) var (asked (condition (num (var 0))))
+num_kept = record { neither = refl; form = refl; with_parameters = refl; stand = stands }
+
+word_kept : IsKept (group true) var (asked (condition (word (var 0))))
+word_kept = record { neither = refl; form = refl; with_parameters = refl; stand = stands }
+
+lit_kept : IsKept (group true) var (asked (condition (lit 1 (var 0))))
+lit_kept = record { neither = refl; form = refl; with_parameters = refl; stand = stands }
+
+key_kept : IsKept (group true) var (asked (condition (key (var 0))))
+key_kept = record { neither = refl; form = refl; with_parameters = refl; stand = stands }
+
+lossless_kept : IsKept (group true) var (asked (condition (lossless (var 0) byte)))
+lossless_kept = record {
+  neither = lossless_open;
   form = refl;
   with_parameters = refl;
-  stand =
-      λ v e. record { where_ = var 0; shown = Shows.root (0, omega arith, refl); there = e };
+  stand = λ v e. elim e [ inl p ↦ stands v p | inr q ↦ no_variable q ];
 }
 
-num_left : IsLeft (group false) var (asked (num (var 0)))
-num_left = record { neither = refl; unkept = λ h. let e : false ≡ true = h.with_parameters in cc }
+cut_kept : IsKept (group true) var (asked (condition (cut (var 0) byte)))
+cut_kept = record { neither = refl; form = refl; with_parameters = refl; stand = λ v e. elim e [ inl p ↦ stands v p | inr q ↦ no_variable q ] }
 
--- a field is never kept
-field_left : IsLeft (group true) var (asked (field (var 0) (codes "x") (var 0)))
-field_left = record { neither = refl; unkept = λ h. let e : false ≡ true = h.form in cc }
+fit_kept : IsKept (group true) var (asked (condition (fit byte (var 0))))
+fit_kept = record { neither = refl; form = refl; with_parameters = refl; stand = λ v e. elim e [ inl p ↦ no_variable p | inr q ↦ stands v q ] }
+
+-- and left, where one has none
+
+num_left : IsLeft (group false) var (asked (condition (num (var 0))))
+num_left = record { neither = refl; unkept = λ h. no_variable h.with_parameters }
+
+word_left : IsLeft (group false) var (asked (condition (word (var 0))))
+word_left = record { neither = refl; unkept = λ h. no_variable h.with_parameters }
+
+lit_left : IsLeft (group false) var (asked (condition (lit 1 (var 0))))
+lit_left = record { neither = refl; unkept = λ h. no_variable h.with_parameters }
+
+key_left : IsLeft (group false) var (asked (condition (key (var 0))))
+key_left = record { neither = refl; unkept = λ h. no_variable h.with_parameters }
+
+lossless_left : IsLeft (group false) var (asked (condition (lossless (var 0) byte)))
+lossless_left = record { neither = lossless_open; unkept = λ h. no_variable h.with_parameters }
+
+cut_left : IsLeft (group false) var (asked (condition (cut (var 0) byte)))
+cut_left = record { neither = refl; unkept = λ h. no_variable h.with_parameters }
+
+fit_left : IsLeft (group false) var (asked (condition (fit byte (var 0))))
+fit_left = record { neither = refl; unkept = λ h. no_variable h.with_parameters }
+
+-- the other demands are never kept
+
+cat_left : IsLeft (group true) var (asked (condition (cat byte (var 0) (var 0))))
+cat_left = record { neither = refl; unkept = λ h. no_variable h.form }
+
+field_left : IsLeft (group true) var (asked (condition (field (var 0) (codes "x") (var 0))))
+field_left = record { neither = refl; unkept = λ h. no_variable h.form }
+
+tag_left : IsLeft (group true) var (asked (condition (tag (var 0) (codes "t") (var 0))))
+tag_left = record { neither = refl; unkept = λ h. no_variable h.form }
+
+loops_left : IsLeft (group true) var (asked (condition (loops (var 0) (var 0) (var 0))))
+loops_left = record { neither = refl; unkept = λ h. no_variable h.form }
+
+make_left : IsLeft (group true) var (asked (make (var 0) (codes "t") (var 0)))
+make_left = record { neither = refl; unkept = λ h. no_variable h.form }
+
+gather_left : IsLeft (group true) var (asked (gather (var 0) (var 0) (var 0) (var 0) (var 0)))
+gather_left = record { neither = refl; unkept = λ h. no_variable h.form }

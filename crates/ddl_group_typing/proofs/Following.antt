@@ -1,5 +1,5 @@
 -- A demand under a map that is another one followed by a third one.
-use Rattle.std.proofs.Common.{◌≡◌, refl, ap, ◌∙◌}
+use Rattle.std.proofs.Common.{◌≡◌, ap, ◌∙◌}
 use Rattle.ddl_types.specs.Types.{Ty, Sub, on}
 use Rattle.ddl_types.specs.Conditions.{Condition, num, word, lit, key, lossless, cut, fit, cat, field, tag, loops, on_condition}
 use Rattle.ddl_judging.specs.Demands.{Demand, condition, make, gather, on_demand}

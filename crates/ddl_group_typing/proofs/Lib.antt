@@ -1,5 +1,12 @@
+pub mod AtHeads
+pub mod AtPlaces
+pub mod Closing
 pub mod ConditionRows
 pub mod Following
+pub mod GroupWellTyped
+pub mod Instances
 pub mod Numbering
 pub mod OneTable
+pub mod OwnCallRows
+pub mod OwnShapes
 pub mod Staying

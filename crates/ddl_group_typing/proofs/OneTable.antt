@@ -1,17 +1,16 @@
 -- A group has one typing, whichever most general solutions are kept, and so have all groups.
-use Rattle.std.proofs.Common.{◌≡◌, ℕ, suc, List, [], ◌∷◌, length, refl, sym, ap, ◌∙◌, subst}
+use Rattle.std.proofs.Common.{◌≡◌, ℕ, List, ◌∷◌, length, refl, sym, ap, ◌∙◌, subst}
 use Rattle.std.proofs.Math.Path.{fun_ext}
 use Rattle.ddl_types.specs.Types.{Ty, Sub, on}
 use Rattle.ddl_unify.specs.Equations.{Equation, MostGeneral}
 use Rattle.ddl_judging.specs.Demands.{Asked, on_demand}
-use Rattle.ddl_judging.specs.Judging.{Judged, holds, undecided}
+use Rattle.ddl_judging.specs.Judging.{Judged, holds}
 use Rattle.ddl_conditions.specs.Growing.{Group, State, equations}
 use Rattle.ddl_conditions.specs.Laws.{done_with}
-use Rattle.ddl_conditions.specs.Settled.{AreKept, IsEnd, IsKept, IsMet, AreKept.none_left, AreKept.met, AreKept.kept}
+use Rattle.ddl_conditions.specs.Settled.{AreKept, IsMet, AreKept.none_left, AreKept.met, AreKept.kept}
 use Rattle.ddl_conditions.proofs.Carrying.{Follows, along}
 use Rattle.ddl_conditions.proofs.OneEnd.{one_end}
 use Rattle.ddl_conditions.proofs.Verdicts.{not_neither}
-use Rattle.ddl_schemes.specs.Renaming.{seen}
 use Rattle.ddl_group_typing.proofs.Following.{demand_follows}
 use Rattle.ddl_typing.specs.Groups.{equations_of}
 use Rattle.ddl_group_typing.specs.Tables.{Opening, Table, asked_in, elaborated_in}
@@ -20,7 +19,7 @@ use Rattle.ddl_group_typing.proofs.Numbering.{numbered_alike, seen_alike, count_
 use Rattle.ddl_group_typing.proofs.Staying.{judged_stays}
 
 -- a demand that holds under a solution holds under one that follows it
-met_follows : (z : Group) (f g h : Sub) (a : Asked) → Follows g f h → IsMet z f a → IsMet z g a
+pub met_follows : (z : Group) (f g h : Sub) (a : Asked) → Follows g f h → IsMet z f a → IsMet z g a
 met_follows z f g h a e m = let P : Rattle.ddl_judging.specs.Demands.Demand → Type 0 = λ d. Judged z.shapes d holds in
     subst P (sym (demand_follows f h g e a.what)) (judged_stays z.shapes (on_demand f a.what) h m)
 

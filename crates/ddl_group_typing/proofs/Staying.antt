@@ -1,13 +1,12 @@
 -- A demand that holds still holds where variables of its types are replaced.
-use Rattle.std.proofs.Common.{◌≡◌, ℕ, ◌+◌, refl, sym, ap, ◌∙◌, Bool, true, false, nat_lt, nat_le, Option, Some, None, List, subst, arith}
+use Rattle.std.proofs.Common.{◌≡◌, ℕ, refl, ap, Bool, true, false, nat_le, Option, Some, None, List, subst, arith}
 use Rattle.ddl_types.specs.Types.{Ty, Ty.var, Ty.con, Tys, Sub, on, on_all, Head, Head.int, Head.uint, Head.sint, Head.bool, Head.unit, Head.stream}
 use Rattle.ddl_types.specs.Types.{Head.maybe_of, Head.array_of, Head.map_of, Head.bits, Head.place}
 use Rattle.ddl_types.specs.Conditions.{num, word, lit, key, lossless, cut, fit, cat, field, tag, loops}
-use Rattle.ddl_judging.specs.declared.refusal.Wanted.TheVariants as w
 use Rattle.ddl_judging.specs.Demands.{Demand, condition, make, gather, on_demand}
-use Rattle.ddl_judging.specs.Judging.{Casting, keeps, loses, has_gap, if_equal, if_keeps, casting, can_cut, can_fit, IsCast, IsEqual, same, later, never}
-use Rattle.ddl_judging.specs.Judging.{IsLossless, IsUnknown, itself, unknown, Judged, Verdict, holds, undecided, false_for, Wrong, not_number, not_lossless}
-use Rattle.ddl_judging.specs.Judging.{no_field, literal_range, width_range, gap, if_true, if_member, number, word_type, literal, comparable, cutting, fitting}
+use Rattle.ddl_judging.specs.Judging.{Casting, keeps, loses, has_gap, if_equal, if_keeps, casting, can_cut, can_fit, IsCast, same}
+use Rattle.ddl_judging.specs.Judging.{IsLossless, itself, Judged, holds, undecided, false_for, Wrong, not_lossless}
+use Rattle.ddl_judging.specs.Judging.{literal_range, if_true, if_member, number, word_type, literal, comparable, cutting, fitting}
 use Rattle.ddl_judging.specs.Judging.{joined, has_field, has_tag, makes, looped}
 use Rattle.ddl_judging.specs.Shapes.{Shapes, found, place_at, bits_at}
 

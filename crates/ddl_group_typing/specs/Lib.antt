@@ -1,7 +1,9 @@
 pub mod Finals
 pub mod Laws
 pub mod OwnCalls
+pub mod OwnShapes
 pub mod Refusals
+pub mod Solved
 pub mod Tables
 pub mod WellTyped
 pub mod Whole

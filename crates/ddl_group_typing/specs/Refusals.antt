@@ -1,5 +1,5 @@
 -- Why a group is refused: by what it writes, by an equation, by a condition, or by a `case` of which something is left.
-use Rattle.std.specs.Prelude.{◌≡◌, ℕ, List, [], ◌∷◌, ◌++◌, map, length, All, Bool, true, false, Option, Some, None}
+use Rattle.std.specs.Prelude.{◌≡◌, ℕ, List, [], ◌∷◌, ◌++◌, map, length, All, Bool, Option, Some, None}
 use Rattle.ddl_base.specs.declared.span.Span.{Span}
 use Rattle.ddl_types.specs.Types.{Ty, Sub}
 use Rattle.ddl_unify.specs.Equations.{Equation, MostGeneral}
@@ -11,10 +11,7 @@ use Rattle.ddl_growing.specs.Turns.{Clashes}
 use Rattle.ddl_conditions.specs.Growing.{Added, FirstOf, Grows, State}
 use Rattle.ddl_conditions.specs.Settled.{IsEnd, IsFalse, IsLeft, IsWrong}
 use Rattle.ddl_schemes.specs.Renaming.{seen}
-use Rattle.ddl_typed.specs.Tree as t
 use Rattle.ddl_rules.specs.Asks.{Ask, equates, demands}
-use Rattle.ddl_rules.specs.Refusing.{first_of}
-use Rattle.ddl_rules.specs.declared.refusing.TypeRefusal.{TypeRefusal}
 use Rattle.ddl_typing.specs.Gaps.{Gap, first_gap, or_later}
 use Rattle.ddl_typing.specs.Groups.{equations_of}
 use Rattle.ddl_group_typing.specs.Tables.{Done, Opening, Table, asked_in, elaborated_in, shape_of}
@@ -77,9 +74,18 @@ module _ {H : Type 0} (read : Option H) (is_value : ℕ → Bool) (o : Opening) 
         (elaborated_in o z).trees) ≡ Some g)
         → IsRefused (no_alternative g)
 
--- the first group that has a reason has this one, and the groups before it are typed
+-- what the types in a refusal name: where each record and union stands, by its number, and which declaration each bitdata is
+pub record Named : Type 0 where
+  pub places : List Span
+  pub bitdata : List ℕ
+
+-- a type in a refusal of a group speaks of what its bodies made, and of what there was before
+abbrev pub named_in : Opening → Table → Named
+named_in o z = record { places = map (λ p. p.span) (elaborated_in o z).state.places; bitdata = o.declared }
+
+-- the first group that has a reason has this one, with what it names, and the groups before it are typed
 pub record IsFirstRefused (opened : List ℕ → Table → Opening) {H : Type 0} (read : List ℕ → Table → Option H) (is_value : ℕ
-    → Bool) (groups : List (List ℕ)) (start : Table) (e : Refusal H) : Type 0 where
+    → Bool) (groups : List (List ℕ)) (start : Table) (e : Refusal H) (names : Named) : Type 0 where
   pub before : List (List ℕ)
   pub here : List ℕ
   pub after : List (List ℕ)
@@ -87,3 +93,4 @@ pub record IsFirstRefused (opened : List ℕ → Table → Opening) {H : Type 0}
   pub table : Table
   pub typed : AreTyped opened before start table
   pub refused : IsRefused (read here table) is_value (opened here table) table e
+  pub told : names ≡ named_in (opened here table) table

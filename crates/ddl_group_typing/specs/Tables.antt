@@ -1,5 +1,5 @@
 -- What is known once some groups of declarations are typed, and what the headers of a further group give.
-use Rattle.std.specs.Prelude.{ℕ, List, [], ◌∷◌, map, Bool, Option, Some, None}
+use Rattle.std.specs.Prelude.{ℕ, List, map, Bool, Option, Some, None}
 use Rattle.ddl_types.specs.Types.{Ty}
 use Rattle.ddl_judging.specs.Shapes.{BitShape, Shape, Shapes}
 use Rattle.ddl_conditions.specs.Growing.{Group}
@@ -13,19 +13,20 @@ pub record Done : Type 0 where
   pub number : ℕ
   pub tree : t.Expr
 
--- the declarations by their numbers, the typed bodies, the records and unions, the bitdata, and the texts of `Fail` and how
--- many grammar arguments there were
+-- the declarations by their numbers, the typed bodies, the records and unions, the bitdata and which declaration each of them
+-- is, and the texts of `Fail` and how many grammar arguments there were
 pub record Table : Type 0 where
   pub known : ℕ → Known
   pub done : List Done
   pub places : List Place
   pub bitdata : List BitShape
+  pub declared : List ℕ
   pub texts : List (List ℕ)
   pub sites : ℕ
 
 -- what the headers of a group give: its members that have bodies, these with their own types over the first variables, what is
 -- known of each member while the group is solved, the types of its declarations in order, whether each of these has parameters,
--- and where the bodies begin, with the bitdata until then
+-- and where the bodies begin, with the bitdata until then and which declaration each of them is
 pub record Opening : Type 0 where
   pub members : List ℕ
   pub bodies : List Body
@@ -34,6 +35,7 @@ pub record Opening : Type 0 where
   pub with_parameters : Bool
   pub state : State
   pub bitdata : List BitShape
+  pub declared : List ℕ
 
 abbrev pub or_known : Option Known → Known → Known
 or_known None it = it

@@ -1,6 +1,6 @@
 -- Which typed bodies are well typed: some typing has these trees, each of its equations is met, and each demand holds or is assumed.
-use Rattle.std.specs.Prelude.{◌≡◌, ◌⊎◌, ℕ, ◌+◌, zero, suc, Contains, List, [], ◌∷◌, length, Bool, true, false, Option, Some, None}
-use Rattle.ddl_types.specs.Types.{Ty, Ty.var, Ty.con, Tys, Tys.none, Tys.more, Head.uint, Head.array_of, Head.map_of, Head.bits, Head.place, Below}
+use Rattle.std.specs.Prelude.{◌≡◌, ◌⊎◌, ℕ, ◌+◌, Contains, List, [], ◌∷◌, length, Bool, true, false, Option, Some, None}
+use Rattle.ddl_types.specs.Types.{Ty, Ty.con, Tys, Tys.none, Tys.more, Head.uint, Head.array_of, Head.map_of, Head.bits, Head.place}
 use Rattle.ddl_types.specs.Conditions.{Condition, key, cat, field, tag, loops}
 use Rattle.ddl_judging.specs.Demands.{Demand, condition, make, gather}
 use Rattle.ddl_judging.specs.Judging.{Judged, holds}

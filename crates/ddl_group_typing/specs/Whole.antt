@@ -26,6 +26,7 @@ with_group o z n final kept = let it = elaborated_in o z in record {
   done = z.done ++ final_bodies n final o.members o.members it.trees;
   places = final_places n final (length z.places) it.state.places;
   bitdata = o.bitdata;
+  declared = o.declared;
   texts = it.state.texts;
   sites = it.state.sites;
 }

@@ -3,4 +3,4 @@
 
 mod laws;
 
-pub use laws::typing_law;
+pub use laws::{instances_law, typing_law, well_typed_law};

@@ -132,11 +132,12 @@ some_content : fitted (p.Tag (name (codes "some") 20 24) (Some (Ignored (place 2
     }
 some_content = refl
 
--- v is some: the tag is asked at the whole form
+-- v is some: the tag is asked at the whole form, before what its subject asks
 is_some : guarded (h.IsTag (name (codes "some") 15 19)) subject (place 10 19) (before 7 [])
     ≡ record {
       pattern = pattern.Tag (codes "some") None;
-      asks = asks_for (tag subject (codes "some") (var 7)) (place 10 19) ∷ [];
+      before = asks_for (tag subject (codes "some") (var 7)) (place 10 19) ∷ [];
+      behind = [];
       of = var 7;
       state =
           before 8 [];
@@ -145,7 +146,7 @@ is_some = refl
 
 -- v is true: `bool` is asked at the word
 is_true : guarded (h.IsTrue (place 15 19)) subject (place 10 19) (before 7 [])
-    ≡ record { pattern = pattern.Truth true; asks = wants subject (con bool none) (place 15 19) ∷ []; of = con unit none; state = before 7 [] }
+    ≡ record { pattern = pattern.Truth true; before = []; behind = wants subject (con bool none) (place 15 19) ∷ []; of = con unit none; state = before 7 [] }
 is_true = refl
 
 -- ---- turns

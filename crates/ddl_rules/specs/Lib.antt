@@ -1,6 +1,7 @@
 pub mod Asks
 pub mod BuiltInTypes
 pub mod ClassForms
+pub mod Laws
 pub mod Operators
 pub mod Patterns
 pub mod Refusing

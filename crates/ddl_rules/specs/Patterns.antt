@@ -1,5 +1,6 @@
 -- The typing of patterns, of what `is` wants, and of the names of turns.
-use Rattle.std.specs.Prelude.{◌≡◌, ℕ, ◌+◌, List, [], ◌∷◌, length, true, false, Option, Some, None}
+use Rattle.std.specs.Prelude.{◌≡◌, ℕ, ◌+◌, List, [], ◌∷◌, ◌++◌, length, true, false, Option, Some, None}
+use Rattle.std.proofs.Math.ListN.{set}
 use Rattle.ddl_base.specs.declared.span.Span.{Span}
 use Rattle.ddl_tree.specs.declared.pattern.Binder.{Binder}
 use Rattle.ddl_tree.specs.declared.pattern.Binder.TheVariants.{Called, Ignored}
@@ -18,7 +19,8 @@ use Rattle.ddl_ops.specs.declared.pattern.Pattern.TheVariants as t
 use Rattle.ddl_typed.specs.declared.parts.Binder as turn
 use Rattle.ddl_rules.specs.declared.elaboration.Elaboration.{Elaboration}
 use Rattle.ddl_rules.specs.Asks.{Ask, Env, State, wants, asks_for, unit_type, bool_type, word, maybe, after_variables, with_value}
-use Rattle.ddl_rules.specs.Steps.{GoesOn}
+use Rattle.ddl_rules.specs.Steps.{GoesOn, held}
+use Rattle.ddl_rules.specs.Views.{asks_of, env_of, state_of}
 
 -- a pattern of a value of this type: what it asks, the names that it gives, and what is left
 pub record Fitted : Type 0 where
@@ -73,31 +75,68 @@ pub record IsFitted (p : Pattern) (f : Fitted) (old now : Elaboration) : Type 0 
 
 -- ---- `is`
 
--- its equation stands at the word behind it, and what it asks of a tag at the whole form; its value is the content
+-- what it asks before what its subject asks, and behind it: a tag is asked for by the whole form, and an equation stands at the
+-- word behind the subject; its value is the content
 pub record Guarded : Type 0 where
   pub pattern : Pattern
-  pub asks : List Ask
+  pub before : List Ask
+  pub behind : List Ask
   pub of : Ty
   pub state : State
 
 abbrev pub guarded : Shape → Ty → Span → State → Guarded
 guarded (h.IsTag x) u s z = record {
   pattern = t.Tag x.text None;
-  asks = asks_for (tag u x.text (var z.next)) s ∷ [];
+  before = asks_for (tag u x.text (var z.next)) s ∷ [];
+  behind = [];
   of = var z.next;
-  state =
-      after_variables 1 z;
+  state = after_variables 1 z;
 }
-guarded (h.IsTrue w) u s z = record { pattern = t.Truth true; asks = wants u bool_type w ∷ []; of = unit_type; state = z }
-guarded (h.IsFalse w) u s z = record { pattern = t.Truth false; asks = wants u bool_type w ∷ []; of = unit_type; state = z }
-guarded (h.IsJust w) u s z = record { pattern = t.Just None; asks = wants u (maybe (var z.next)) w ∷ []; of = var z.next; state = after_variables 1 z }
-guarded (h.IsNothing w) u s z = record { pattern = t.Nothing; asks = wants u (maybe (var z.next)) w ∷ []; of = unit_type; state = after_variables 1 z }
+guarded (h.IsTrue w) u s z = record { pattern = t.Truth true; before = []; behind = wants u bool_type w ∷ []; of = unit_type; state = z }
+guarded (h.IsFalse w) u s z = record { pattern = t.Truth false; before = []; behind = wants u bool_type w ∷ []; of = unit_type; state = z }
+guarded (h.IsJust w) u s z = record {
+  pattern = t.Just None;
+  before = [];
+  behind = wants u (maybe (var z.next)) w ∷ [];
+  of = var z.next;
+  state = after_variables 1 z;
+}
+guarded (h.IsNothing w) u s z = record {
+  pattern = t.Nothing;
+  before = [];
+  behind = wants u (maybe (var z.next)) w ∷ [];
+  of = unit_type;
+  state = after_variables 1 z;
+}
+
+-- where a tag is asked for, its place is held before the subject
+abbrev pub guard_held : Shape → Span → List Ask
+guard_held (h.IsTag x) s = held s ∷ []
+guard_held q s = []
+
+abbrev pub guard_slot : Shape → ℕ → Option ℕ
+guard_slot (h.IsTag x) n = Some n
+guard_slot q n = None
+
+-- what is asked before the subject stands in the place that was held for it
+abbrev pub with_before : List Ask → Option ℕ → List Ask → List Ask
+with_before [] slot as_ = as_
+with_before (a ∷ bs) None as_ = as_
+with_before (a ∷ bs) (Some slot) as_ = set as_ slot a
+
+-- the ask of a tag stands in the place that was held, where one was, and one more type is free
+pub record IsTagFilled (slot : Option ℕ) (ask : Ask) (old now : Elaboration) : Type 0 where
+  pub asked : asks_of now ≡ with_before (ask ∷ []) slot (asks_of old)
+  pub stated : state_of now ≡ after_variables 1 (state_of old)
+  pub scoped : env_of now ≡ env_of old
 
 -- this is the pattern, and the type of the content
-pub record IsGuarded (p : Pattern) (t : program.Ty) (g : Guarded) (env : Env) (old now : Elaboration) : Type 0 where
+pub record IsGuarded (p : Pattern) (t : program.Ty) (g : Guarded) (slot : Option ℕ) (env : Env) (old now : Elaboration) : Type 0 where
   pub fits : p ≡ g.pattern
   pub typed : ty_view t ≡ g.of
-  pub goes_on : GoesOn g.asks g.state env old now
+  pub asked : asks_of now ≡ with_before g.before slot (asks_of old) ++ g.behind
+  pub stated : state_of now ≡ g.state
+  pub scoped : env_of now ≡ env
 
 -- ---- turns
 

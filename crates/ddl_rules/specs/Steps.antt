@@ -1,5 +1,5 @@
 -- How elaboration goes on.
-use Rattle.std.specs.Prelude.{◌≡◌, ℕ, List, ◌++◌, take}
+use Rattle.std.specs.Prelude.{◌≡◌, ℕ, List, [], ◌++◌, take, Option, Some, None}
 use Rattle.std.proofs.Math.ListN.{set}
 use Rattle.ddl_base.specs.declared.span.Span.{Span}
 use Rattle.ddl_rules.specs.declared.elaboration.Elaboration.{Elaboration}
@@ -25,6 +25,11 @@ pub record Fills (slot : ℕ) (ask : Ask) (old now : Elaboration) : Type 0 where
   pub filled : asks_of now ≡ set (asks_of old) slot ask
   pub stated : state_of now ≡ state_of old
   pub scoped : env_of now ≡ env_of old
+
+-- so it is, where a place was held
+abbrev pub IsFilled : Option ℕ → Ask → Elaboration → Elaboration → Type 0
+IsFilled None ask old now = Asks [] old now
+IsFilled (Some slot) ask old now = Fills slot ask old now
 
 -- the names beyond the first so many have left the scope
 pub record Leaves (scope : ℕ) (old now : Elaboration) : Type 0 where

@@ -145,7 +145,9 @@ fn patterns_ask_of_their_subject(rt: HostRuntime) -> Result<(), Fail> {
     let content = types::maybe(alloc, types::variable(5))?;
     assert!(rt; equates(elaboration.asks.get(0), 20, &subject, &content));
     assert!(rt; elaboration.local(at(25)).is_some());
-    let (guard, of) = elaboration.guarded(&Shape::IsTrue(at(15)), &subject, at(10))?;
+    let slot = elaboration.before_guard(&Shape::IsTrue(at(15)), at(10))?;
+    assert!(rt; slot.is_none());
+    let (guard, of) = elaboration.guarded(&Shape::IsTrue(at(15)), &subject, slot, at(10))?;
     assert!(rt; matches!(guard, Pattern::Truth(true)));
     assert!(rt; same(&of, &types::unit()));
     assert!(rt; equates(elaboration.asks.get(1), 15, &subject, &types::truth()));
