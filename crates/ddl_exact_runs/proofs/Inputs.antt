@@ -11,7 +11,7 @@ use Rattle.ddl_typed.specs.Tree.{alone}
 use Rattle.ddl_uses.specs.Bindings.{Loaded}
 use Rattle.ddl_uses.specs.Walks.{loaded}
 use Rattle.ddl_top.specs.Answered.{answer_lines, closing_only, status_of}
-use Rattle.ddl_top.specs.Run.{specified_by}
+use Rattle.ddl_top.specs.Run.{specified_in}
 use Rattle.ddl_top.specs.declared.status.Status.{Status}
 use Rattle.ddl_top.specs.declared.status.Status.TheVariants as status_is
 use Rattle.ddl_exact_runs.proofs.Causes.{AreOne, Lines, OneRest}
@@ -21,7 +21,7 @@ abbrev pub specified_of : List Loaded → Option Declared
 specified_of (prelude ∷ root ∷ []) = specified root.tree
 specified_of ls = None
 
-pub specified_are : (us : List SourceUnit) → specified_by us ≡ specified_of (loaded us)
+pub specified_are : (us : List SourceUnit) → specified_in us ≡ specified_of (loaded us)
 specified_are [] = refl
 specified_are (p ∷ []) = refl
 specified_are (p ∷ r ∷ []) = refl

@@ -13,7 +13,7 @@ use Rattle.ddl_tree.specs.declared.module.SourceUnit.{SourceUnit}
 use Rattle.ddl_uses.specs.Bindings.{Loaded}
 use Rattle.ddl_uses.specs.Walks.{loaded}
 use Rattle.ddl_top.specs.Answered.{closing_only}
-use Rattle.ddl_top.specs.Run.{IsCheckAnswer, IsCommandAnswer, IsDenoted, IsRun, IsRunAnswer, IsUnbuilt, IsWordsAnswer, declarations, specified_by}
+use Rattle.ddl_top.specs.Run.{IsCheckAnswer, IsCommandAnswer, IsDenoted, IsRun, IsRunAnswer, IsUnbuilt, IsWordsAnswer, declarations, specified_in}
 use Rattle.ddl_top.specs.Words.{Command, check_of, command_of, run_of, show_of}
 use Rattle.ddl_top.specs.declared.status.Status.{Status}
 use Rattle.ddl_top.specs.declared.status.Status.TheVariants as status_is
@@ -65,7 +65,7 @@ found_check contents root old new _ lines k i h = absurd h
 
 -- ---- runs
 
-specifies : (us : List SourceUnit) (o : Option Declared) → specified_by us ≡ o → specified_of (loaded us) ≡ o
+specifies : (us : List SourceUnit) (o : Option Declared) → specified_in us ≡ o → specified_of (loaded us) ≡ o
 specifies us o h = sym (specified_are us) ∙ h
 
 found_denoted : (contents : Contents) (root input : List ℕ) (new : FilesState) (a : Status) (lines : Lines) → IsKnown contents new
@@ -92,7 +92,7 @@ found_run contents root input old new status_is.TooLarge lines k i h =
     let g = h.3 in
     let b = told_bytes contents new input h.2 k h.4 in
     found_bound contents root (InputAnswer contents root input) new h.0 g.0 status_is.TooLarge lines k g.1
-    (large h.1 b.0 (specifies g.0 (Some h.1) g.2) b.1 (subst (λ n. 2 ^ 30 < n) b.2 h.5) refl h.6)
+    (large h.1 b.0 (specifies g.0 (Some h.1) g.2) b.1 (subst (λ n. 2 ^ 30 < n) b.2 h.5) refl h.7)
 found_run contents root input old new status_is.Refused lines k i h =
     elim h.1 as (λ o. Found contents root (InputAnswer contents root input) status_is.Refused lines) [
       | inl g ↦ found_refusal contents root (InputAnswer contents root input) old new status_is.Refused lines k i g
@@ -139,7 +139,7 @@ run_answer : (words : List (List ℕ)) (old new : FilesState) (out to : SinkStat
     → (lines : Lines) × IsWordsAnswer words old new a lines × Writes out to (concat lines)
 run_answer words old new out to status_is.WriteFault i h = absurd i
 run_answer words old new out to status_is.NoMemory i h = absurd i
-run_answer words old new out to _ i h = h
+run_answer words old new out to _ i h = (h.0, h.1, h.2)
 
 pub one_run : OneRun
 one_run contents words old new old' new' out to out' to' a b k l i j h g =

@@ -1,11 +1,12 @@
 -- Why a specification is refused, as a line tells it.
-use Rattle.std.specs.Prelude.{◌≡◌, ℕ, List, [], ◌∷◌, map, slice_index_or, decimal}
+use Rattle.std.specs.Prelude.{◌≡◌, ℕ, List, [], ◌∷◌, slice_index_or, decimal}
 use Rattle.ddl_base.specs.declared.span.Span.{Span}
 use Rattle.ddl_base.specs.declared.stage.Stage.{Stage}
 use Rattle.ddl_base.specs.declared.stage.Stage.TheVariants as stage_is
 use Rattle.ddl_base.specs.declared.told.Told.{Told}
 use Rattle.ddl_lex.specs.declared.error.LexError.{LexError}
 use Rattle.ddl_lex.specs.declared.error.LexError.TheVariants as lex_is
+use Rattle.ddl_modules.specs.Cycles.{unit_name}
 use Rattle.ddl_modules.specs.declared.error.LoadError.{LoadError}
 use Rattle.ddl_modules.specs.declared.error.LoadError.TheVariants as load_is
 use Rattle.ddl_kinds.specs.declared.error.NameError.{NameError}
@@ -80,19 +81,15 @@ IsLoadReason e r = ⊥
 
 -- ---- names
 
--- the name of the module of this number
-abbrev pub name_of : List SourceUnit → ℕ → List ℕ
-name_of us m = slice_index_or (map (λ u. u.name) us) m []
-
 -- a place in one of these modules
 abbrev pub name_reason : List SourceUnit → ℕ → Span → List (List ℕ) → Reason
-name_reason us number span more = reason stage_is.Names number (name_of us span.«module») span.«from» span.to more
+name_reason us number span more = reason stage_is.Names number (unit_name us span.«module») span.«from» span.to more
 
 -- this is the reason why the names of these modules are not bound
 abbrev pub IsNameReason : List SourceUnit → NameError → Reason → Type 0
 IsNameReason us (name_is.Unknown span) r = r ≡ name_reason us 1 span []
 IsNameReason us (name_is.Twice later first) r = r ≡ name_reason us 2 later (decimal first.«from» ∷ decimal first.to ∷ [])
-IsNameReason us (name_is.TwoImports span a b) r = r ≡ name_reason us 3 span (name_of us a ∷ name_of us b ∷ [])
+IsNameReason us (name_is.TwoImports span a b) r = r ≡ name_reason us 3 span (unit_name us a ∷ unit_name us b ∷ [])
 IsNameReason us (name_is.WrongKind span) r = r ≡ name_reason us 4 span []
 IsNameReason us (name_is.WrongCount span given wanted) r = r ≡ name_reason us 5 span (decimal given ∷ decimal wanted ∷ [])
 IsNameReason us (name_is.TooManyDecls span) r = r ≡ name_reason us 6 span []

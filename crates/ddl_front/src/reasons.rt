@@ -3,7 +3,8 @@
 ghost use Rattle.std.specs.Prelude.{◌≡◌, ◌∷◌, [], IfOk, decimal};
 ghost use Rattle.ddl_front.specs.Front.{IsLoadRefusal, IsNameRefusal};
 ghost use Rattle.ddl_front.specs.Reasons.{IsNameReason, IsSourceReason, first_name, lex_number, lex_place, load_reason};
-ghost use Rattle.ddl_front.specs.Reasons.{long_reason, name_of, name_reason, reason, reason_view};
+ghost use Rattle.ddl_front.specs.Reasons.{long_reason, name_reason, reason, reason_view};
+ghost use Rattle.ddl_modules.specs.Cycles.{unit_name};
 ghost use Rattle.ddl_names.specs.Resolves.{IsUnbound};
 ghost use Rattle.ddl_source.specs.declared.error.SourceError.TheVariants as wrong;
 
@@ -205,8 +206,8 @@ pub(crate) fn load_refusal(alloc: Global, error: LoadError) -> Result<Refusal, N
 }
 
 /// The name of the module of this number.
-fn name_of(units: &[SourceUnit], module: u32) -> &[u8]
-    ensures { result.now ≡ name_of units.now «module» }
+fn unit_name(units: &[SourceUnit], module: u32) -> &[u8]
+    ensures { result.now ≡ unit_name units.now «module» }
 {
     match units.get(module as usize) {
         Some(unit) => unit.name.get(),
@@ -231,7 +232,7 @@ fn use_told(alloc: Global, units: &[SourceUnit], number: u8, span: Span) -> Resu
     ensures { IfOk result (λ t. reason_view t ≡ name_reason units.now number span []) }
 {
     let cause = name_cause(number, span);
-    told(alloc, name_of(units, span.module), cause, Vec::new(alloc))
+    told(alloc, unit_name(units, span.module), cause, Vec::new(alloc))
 }
 
 /// What is told of a use or a declaration, with two texts.
@@ -246,7 +247,7 @@ fn use_told_with(
     ensures { IfOk result (λ t. reason_view t ≡ name_reason units.now number span (first ∷ second ∷ [])) }
 {
     let cause = name_cause(number, span);
-    told_pair(alloc, name_of(units, span.module), cause, first, second)
+    told_pair(alloc, unit_name(units, span.module), cause, first, second)
 }
 
 /// What is told of names that are not bound.
@@ -261,8 +262,8 @@ fn name_told(alloc: Global, units: &[SourceUnit], error: NameError) -> Result<To
             use_told_with(alloc, units, 2, later, from, to)
         }
         NameError::TwoImports(span, one, other) => {
-            let one = Bytes::of(alloc, name_of(units, one))?;
-            let other = Bytes::of(alloc, name_of(units, other))?;
+            let one = Bytes::of(alloc, unit_name(units, one))?;
+            let other = Bytes::of(alloc, unit_name(units, other))?;
             use_told_with(alloc, units, 3, span, one, other)
         }
         NameError::WrongKind(span) => use_told(alloc, units, 4, span),

@@ -54,6 +54,10 @@ HasAt held name at bytes = IfSome held (λ files. bytes ≡ take (length bytes) 
 abbrev pub IsFile : FilesState → List ℕ → List ℕ → Type 0
 IsFile files name bytes = (files.told name ≡ Some (length bytes)) × Holds files.held name bytes
 
+-- each length that was told is that of the file which is held, where content is told
+abbrev pub IsToldAsHeld : FilesState → Type 0
+IsToldAsHeld files = (name : List ℕ) (n : ℕ) → files.told name ≡ Some n → HasLength files.held name n
+
 -- Time went on: what is held stays, a length that was told stays, and no count falls. Where no call may fail none did.
 pub record Later (old new : FilesState) : Type 0 where
   pub held : new.held ≡ old.held

@@ -1,10 +1,14 @@
 -- What contracts see of the files in memory.
 use Rattle.std.specs.Prelude.{ℕ, ◌+◌, List, [], ◌∷◌, length, Option, Some, None, option_map, option_and_then, Bool, true, false, if◌then◌else◌, min, max}
-use Rattle.std.specs.Prelude.{replicate, ◌==◌}
+use Rattle.std.specs.Prelude.{◌≡◌, replicate, ◌==◌}
 use Rattle.std.specs.List.{list_any}
 use Rattle.ddl_outside.specs.Counts.{one_more}
 use Rattle.ddl_outside.specs.Files.{FilesState, Contents}
 use Rattle.ddl_outside.specs.Named.{at_name, name_of}
+use Rattle.ddl_outside.specs.declared.files.Length.{Length}
+use Rattle.ddl_outside.specs.declared.files.Length.TheVariants as length_of
+use Rattle.ddl_outside.specs.declared.files.Piece.{Piece}
+use Rattle.ddl_outside.specs.declared.files.Piece.TheVariants as piece_of
 use Rattle.ddl_outside.specs.declared.named.Named.{Named}
 use Rattle.ddl_outside.specs.declared.mem_files.Content.{Content}
 use Rattle.ddl_outside.specs.declared.mem_files.Content.TheVariants.{Stored, Zeros}
@@ -94,3 +98,19 @@ told_entry file = record file { told = true }
 -- so many bytes of this file were asked for at an offset
 abbrev pub asked_entry : ℕ → ℕ → Entry → Entry
 asked_entry at count file = record file { reach = max file.reach (min (at + count) (length file.bytes)) }
+
+-- `length` fails exactly where the call is one that is to fail, and memory is never wanting
+abbrev pub LengthAsNamed : Bool → Length → Type 0
+LengthAsNamed to_fail length_of.Failed = to_fail ≡ true
+LengthAsNamed to_fail length_of.NoMemory = ⊥
+LengthAsNamed to_fail _ = to_fail ≡ false
+
+-- `read` fails exactly where the call is one that is to fail, and a file whose length was told is there
+abbrev pub PieceAsNamed : Bool → Piece → Type 0
+PieceAsNamed to_fail piece_of.Failed = to_fail ≡ true
+PieceAsNamed to_fail piece_of.Absent = ⊥
+PieceAsNamed to_fail _ = to_fail ≡ false
+
+-- a call was counted, and the same calls are to fail
+abbrev pub IsCounted : MemState → MemState → Type 0
+IsCounted old new = (new.calls ≡ one_more old.calls) × (new.failing ≡ old.failing)

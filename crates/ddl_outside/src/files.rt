@@ -1,5 +1,5 @@
-ghost use Rattle.std.specs.Prelude.{◌≡◌, ◌<◌, List, ℕ, Some, length};
-ghost use Rattle.ddl_outside.specs.Files.{FilesState, IsTold, HasLength, reach_after};
+ghost use Rattle.std.specs.Prelude.{◌≡◌, ◌<◌, length};
+ghost use Rattle.ddl_outside.specs.Files.{FilesState, IsTold, IsToldAsHeld, reach_after};
 ghost use Rattle.ddl_outside.specs.Files.{Later, TouchesOnly, IsLength, IsPiece};
 
 /// What is known of a file's length.
@@ -53,6 +53,5 @@ pub trait Files {
         ensures answer { IsPiece (state self.old) (state self.new) name.now at into.new result };
 
     /// A file whose length was told is there with that length, where content is told.
-    ghost told_is_held: { (files : Self) (name : List ℕ) (n : ℕ)
-        → (state files).told name ≡ Some n → HasLength (state files).held name n };
+    ghost told_is_held: { (files : Self) → IsToldAsHeld (state files) };
 }

@@ -22,7 +22,7 @@ impl<W: Write + Drop> HostOut<W> {
 impl<W: Write + Drop> Sink for HostOut<W> {
     ghost use Rattle.std.specs.Prelude.{None};
 
-    ghost state = { λ s. record { wrote = None; room = None; faults = s.faults } };
+    ghost state = { λ s. record { wrote = None; offers = None; room = None; faults = s.faults } };
 
     /// A write that takes nothing is a failure.
     fn write(&mut self, piece: &[u8]) -> Took {

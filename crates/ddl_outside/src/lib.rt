@@ -20,6 +20,6 @@ pub use host_out::HostOut;
 pub use mem_files::MemFiles;
 pub use mem_sink::MemSink;
 pub use refusal::Refusal;
-pub use sink::{Sink, Took};
+pub use sink::{Offer, Sink, Took};
 pub use whole_file::{Whole, read_whole};
 pub use writing::{Written, write_lines, write_whole};

@@ -227,7 +227,7 @@ impl MemFiles {
 
 impl MemFiles {
     ghost use Rattle.ddl_outside.specs.Files.{IsTold, IsPiece, Later};
-    ghost use Rattle.ddl_outside.specs.MemFiles.{files_state};
+    ghost use Rattle.ddl_outside.specs.MemFiles.{counted, fails, files_state, PieceAsNamed};
 
     /// Reads bytes of a file whose length was told, unless the call is one that fails.
     #[tactic(auto, using(crate::proofs::MemFilesLemmas::changes))]
@@ -236,6 +236,8 @@ impl MemFiles {
         requires room { 0 < length into.old }
         ensures files { self.new.files ≡ self.old.files }
         ensures failing { self.new.failing ≡ self.old.failing }
+        ensures calls { self.new.calls ≡ one_more self.old.calls }
+        ensures named { PieceAsNamed (fails (counted self.old)) result }
         ensures later { Later (files_state self.old) (files_state self.new) }
         ensures answer { IsPiece (files_state self.old) (files_state self.new)
             name.now at into.new result }
@@ -253,15 +255,25 @@ impl MemFiles {
 }
 
 impl Files for MemFiles {
-    ghost use Rattle.ddl_outside.specs.MemFiles.{files_state};
+    ghost use Rattle.ddl_outside.specs.Files.{IsLength, IsPiece, IsTold, Later, TouchesOnly, reach_after};
+    ghost use Rattle.ddl_outside.specs.MemFiles.{counted, fails, files_state};
+    ghost use Rattle.ddl_outside.specs.MemFiles.{IsCounted, LengthAsNamed, PieceAsNamed};
     ghost use Rattle.ddl_outside.specs.Told.{told_in_held};
 
     ghost state = { files_state };
 
     ghost told_is_held = { λ m name n told. told_in_held m.files name n told };
 
+    /// The call that `fail_at` names fails, and no other. Memory is never wanting.
     #[tactic(auto, using(crate::proofs::MemFilesLemmas::changes))]
-    fn length(&mut self, name: &str) -> Length {
+    fn length(&mut self, name: &str) -> Length
+        ensures later { Later (files_state self.old) (files_state self.new) }
+        ensures only { TouchesOnly name.now (files_state self.old) (files_state self.new) }
+        ensures reach { (files_state self.new).reach ≡ (files_state self.old).reach }
+        ensures answer { IsLength (files_state self.old) (files_state self.new) name.now result }
+        ensures named { LengthAsNamed (fails (counted self.old)) result }
+        ensures calls { IsCounted self.old self.new }
+    {
         if self.counts_failing() {
             self.fault();
             return Length::Failed;
@@ -275,7 +287,19 @@ impl Files for MemFiles {
         }
     }
 
-    fn read(&mut self, name: &str, at: u64, into: &mut [u8]) -> Piece {
+    /// The call that `fail_at` names fails, and no other.
+    fn read(&mut self, name: &str, at: u64, into: &mut [u8]) -> Piece
+        requires told { IsTold (files_state self.old) name.now }
+        requires room { 0 < length into.old }
+        ensures later { Later (files_state self.old) (files_state self.new) }
+        ensures only { TouchesOnly name.now (files_state self.old) (files_state self.new) }
+        ensures told { (files_state self.new).told ≡ (files_state self.old).told }
+        ensures reach { (files_state self.new).reach name.now
+            ≡ reach_after (files_state self.old) name.now at (length into.old) }
+        ensures answer { IsPiece (files_state self.old) (files_state self.new) name.now at into.new result }
+        ensures named { PieceAsNamed (fails (counted self.old)) result }
+        ensures calls { IsCounted self.old self.new }
+    {
         self.asked(name, at, into.len());
         self.piece(name, at, into)
     }

@@ -1,7 +1,7 @@
 ghost use Rattle.std.specs.Prelude.{◌≡◌, ◌∷◌, ◌++◌, [], IfOk, OnOk, OnErr};
 ghost use Rattle.ddl_outside.specs.Counts.{one_more};
 
-use crate::{Sink, Took};
+use crate::{Offer, Sink, Took};
 use ddl_base::NoMemory;
 use std::alloc::Global;
 use std::marker::Model;
@@ -10,6 +10,7 @@ use std::marker::Model;
 #[derive(Drop)]
 pub struct MemSink {
     bytes: Vec<u8>,
+    offers: Vec<Offer>,
     room: usize,
     failing: Vec<u64>,
     calls: u64,
@@ -24,24 +25,27 @@ impl Model for MemSink {
 
     ghost view = { λ s. record {
       bytes = s.bytes.items;
+      offers = s.offers.items;
       room = s.room;
       failing = s.failing.items;
       calls = s.calls;
       faults = s.faults;
     } };
 
-    ghost invariant = { λ s. vec_len s.bytes + s.room ≤ vec_capacity s.bytes };
+    ghost invariant = { λ s. (vec_len s.bytes + s.room ≤ vec_capacity s.bytes)
+        × (vec_len s.offers + s.room ≤ vec_capacity s.offers) };
 }
 
 impl MemSink {
     ghost use Rattle.ddl_outside.specs.MemSink.{empty_sink, sink_counted, sink_fails};
 
-    /// A sink with room for so many bytes, which it takes at once.
+    /// A sink with room for so many bytes, and for what their writes were offered, which it takes at once.
     pub fn new(alloc: Global, room: usize) -> Result<Self, NoMemory>
         ensures { IfOk result (λ sink. sink ≡ empty_sink room) }
     {
         Ok(MemSink {
             bytes: Vec::with_capacity(alloc, room)?,
+            offers: Vec::with_capacity(alloc, room)?,
             room,
             failing: Vec::new(alloc),
             calls: 0,
@@ -86,18 +90,28 @@ impl MemSink {
 }
 
 impl Sink for MemSink {
-    ghost use Rattle.ddl_outside.specs.MemSink.{sink_state};
+    ghost use Rattle.std.specs.Prelude.{◌<◌, length};
+    ghost use Rattle.ddl_outside.specs.MemSink.{sink_state, FailsAsNamed, IsCounted};
+    ghost use Rattle.ddl_outside.specs.Sink.{IsTook};
 
     ghost state = { sink_state };
 
+    /// The write that `fail_at` names fails, by the count of all writes.
     #[tactic(auto, using(crate::proofs::SinkLemmas::sink_lemmas))]
-    fn write(&mut self, piece: &[u8]) -> Took {
+    fn write(&mut self, piece: &[u8]) -> Took
+        requires { 0 < length piece.now }
+        ensures answer { IsTook (sink_state self.old) (sink_state self.new) piece.now result }
+        ensures named { FailsAsNamed self.old result }
+        ensures calls { IsCounted self.old self.new }
+    {
         if self.counts_failing() || self.room == 0 {
             self.fault();
             return Took::Failed;
         }
         let count = piece.len().min(self.room);
         self.bytes.extend_from_slice(&piece[..count]).unwrap();
+        let left = piece.len() - count;
+        self.offers.push(Offer { took: count, left }).unwrap();
         self.room -= count;
         Took::Took(count)
     }

@@ -10,13 +10,23 @@ pub enum Took {
     Failed,
 }
 
+/// What a write was offered, where it took some of it.
+#[derive(Clone, Copy, PartialEq, Eq)]
+pub struct Offer {
+    /// So many bytes it took.
+    pub took: usize,
+    /// So many more it was offered.
+    pub left: usize,
+}
+
 /// Where bytes are written to, each behind those before.
 pub trait Sink {
-    /// What contracts know of the sink: what was written, what it still takes, what went wrong.
+    /// What contracts know of the sink: what was written, what each write was offered, what the sink still takes, and what
+    /// went wrong.
     ghost state: { Self → SinkState };
 
     /// Writes some of the first bytes of a piece.
     fn write(&mut self, piece: &[u8]) -> Took
         requires { 0 < length piece.now }
-        ensures { IsTook (state self.old) (state self.new) piece.now result };
+        ensures answer { IsTook (state self.old) (state self.new) piece.now result };
 }

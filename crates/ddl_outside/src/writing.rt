@@ -1,5 +1,4 @@
-ghost use Rattle.std.specs.List.{concat};
-ghost use Rattle.ddl_outside.specs.Writing.{IsWrite};
+ghost use Rattle.ddl_outside.specs.Writing.{IsWrite, IsWriteLines};
 
 use crate::{Sink, Took};
 use ddl_base::Bytes;
@@ -13,7 +12,7 @@ pub enum Written {
     Failed,
 }
 
-/// Writes a piece, by as many writes as it takes.
+/// Writes a piece: offers it whole, and then what is left of it, until nothing is.
 pub fn write_whole<S: Sink>(out: &mut S, piece: &[u8]) -> Written
     ensures { IsWrite (S.state out.old) (S.state out.new) piece.now result }
 {
@@ -29,7 +28,7 @@ pub fn write_whole<S: Sink>(out: &mut S, piece: &[u8]) -> Written
 
 /// Writes lines, each by a write of its own and by further ones for its rest.
 pub fn write_lines<S: Sink>(out: &mut S, lines: &[Bytes]) -> Written
-    ensures { IsWrite (S.state out.old) (S.state out.new) (concat lines.now) result }
+    ensures { IsWriteLines (S.state out.old) (S.state out.new) lines.now result }
 {
     for line in lines {
         match write_whole(out, line.get()) {

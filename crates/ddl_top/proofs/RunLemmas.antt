@@ -14,10 +14,11 @@ use Rattle.ddl_report.specs.declared.closing.Closing.TheVariants as closing_is
 use Rattle.ddl_simple.specs.Modules.{Declared}
 use Rattle.ddl_tree.specs.declared.module.SourceUnit.{SourceUnit}
 use Rattle.ddl_types.specs.Answer as answer
+use Rattle.ddl_top.proofs.LongLemmas.{long_is_none}
 use Rattle.ddl_top.specs.Answered.{closing_only, status_of}
 use Rattle.ddl_top.specs.Reading.{IsAnswered, IsInputAnswer, IsUnitsAnswer, TouchesInput}
 use Rattle.ddl_top.specs.Refusals.{IsRefusalAnswer}
-use Rattle.ddl_top.specs.Run.{IsAccepted, IsRunAnswer, RunsInOrder, specified_by}
+use Rattle.ddl_top.specs.Run.{IsAccepted, IsRunAnswer, RunsInOrder, specified_in}
 use Rattle.ddl_top.specs.declared.answer.Answer.{Answer}
 use Rattle.ddl_top.specs.declared.status.Status.{Status}
 use Rattle.ddl_top.specs.declared.status.Status.TheVariants as status_is
@@ -60,9 +61,9 @@ IfOk-input root input old new spec content (Ok a) later file within h =
 IfOk-input root input old new spec content (Err e) later file within h = h
 
 pub IfOk-large : (root input : List ℕ) (old new : FilesState) (spec : Declared) (n : ℕ) (r : Result Answer NoMemory) → Later old new → new.told input ≡ Some n
-    → 2 ^ 30 < n
+    → 2 ^ 30 < n → new.reach input ≡ old.reach input
     → IfOk r (λ a. (a.status ≡ status_is.TooLarge) × (a.lines.items ≡ closing_only closing_is.Large)) → IfOk r (Answers root input old new spec)
-IfOk-large root input old new spec n (Ok a) later told above h =
+IfOk-large root input old new spec n (Ok a) later told above same h =
     λ names accepted. subst (λ s. IsInputAnswer root input old new s a.lines.items) (sym h.0) (
       names,
       spec,
@@ -70,9 +71,10 @@ IfOk-large root input old new spec n (Ok a) later told above h =
       IsAccepted-later old new root names spec later accepted,
       told,
       above,
+      same,
       h.1,
     )
-IfOk-large root input old new spec n (Err e) later told above h = h
+IfOk-large root input old new spec n (Err e) later told above same h = h
 
 pub IfOk-absent : (root input : List ℕ) (old new : FilesState) (spec : Declared) (r : Result Answer NoMemory) → Later old new → IsAbsent old new input
     → IfOk r (λ a. (a.status ≡ status_is.Missing) × (a.lines.items ≡ closing_only (closing_is.Missing input))) → IfOk r (Answers root input old new spec)
@@ -120,13 +122,13 @@ abbrev pub UnitsAnswer : List ℕ → List ℕ → FilesState → FilesState →
 UnitsAnswer root input old new us a = (names : List (List ℕ)) → AreBoundModules old root names us → IsUnitsAnswer root input old new a.status a.lines.items
 
 pub IfOk-units : (root input : List ℕ) (old new : FilesState) (us : List SourceUnit) (spec : Declared) (r : Result Answer NoMemory)
-    → specified_by us ≡ Some spec
+    → specified_in us ≡ Some spec
     → IfOk r (Answers root input old new spec) → IfOk r (UnitsAnswer root input old new us)
 IfOk-units root input old new us spec (Ok a) found h = λ names bound. units_of_input root input old new a.status a.lines.items (h names (us, bound, found))
 IfOk-units root input old new us spec (Err e) found h = h
 
 -- modules of no form that is run so far
-pub IfOk-unbuilt : (root input : List ℕ) (files : FilesState) (us : List SourceUnit) (r : Result Answer NoMemory) → specified_by us ≡ None
+pub IfOk-unbuilt : (root input : List ℕ) (files : FilesState) (us : List SourceUnit) (r : Result Answer NoMemory) → specified_in us ≡ None
     → IfOk r (λ a. (a.status ≡ status_is.Refused) × (a.lines.items ≡ closing_only closing_is.Unbuilt)) → IfOk r (UnitsAnswer root input files files us)
 IfOk-unbuilt root input files us (Ok a) none h =
     λ names bound. subst (λ s. IsUnitsAnswer root input files files s a.lines.items) (sym h.0) ((names, us, bound, none), h.1, refl)
@@ -137,27 +139,31 @@ IfOk-unbuilt root input files us (Err e) none h = h
 touches-found : (old new : FilesState) (root : List ℕ) (us : List SourceUnit) → FindsModules old new root us → TouchesModules old new root
 touches-found old new root us h = inr (us, h.0, h.1.0, h.1.1, inl h.2)
 
--- what modules are answered after they were read is what the call is answered
-run_of_units : (root input : List ℕ) (a b c : FilesState) (us : List SourceUnit) (status : Status) (lines : List (List ℕ)) → Later a b
+-- what modules are answered after they were read is what the call is answered; a large input is none of their files
+run_of_units : (root input : List ℕ) (a b c : FilesState) (us : List SourceUnit) (status : Status) (lines : List (List ℕ)) → Later a b → Later b c
     → FindsModules a b root us
     → IsUnitsAnswer root input b c status lines → IsRunAnswer root input a c status lines
-run_of_units root input a b c us status_is.Refused lines first found h =
+run_of_units root input a b c us status_is.Refused lines first rest found h =
     (subst (λ s. TouchesModules a s root) (sym h.2) (touches-found a b root us found), inr (h.0, h.1))
-run_of_units root input a b c us status_is.Parses lines first found h = h
-run_of_units root input a b c us status_is.NoParse lines first found h = h
-run_of_units root input a b c us status_is.Words lines first found h = absurd h
-run_of_units root input a b c us status_is.Fault lines first found h = h
-run_of_units root input a b c us status_is.Spent lines first found h = absurd h
-run_of_units root input a b c us status_is.ReadFault lines first found h = inr (h.0, h.1, h.2, IsFailed-earlier a b c first h.3, h.4)
-run_of_units root input a b c us status_is.WriteFault lines first found h = absurd h
-run_of_units root input a b c us status_is.Missing lines first found h = inr (h.0, h.1, h.2, IsAbsent-earlier a b c input first h.3, h.4)
-run_of_units root input a b c us status_is.NoMemory lines first found h = absurd h
-run_of_units root input a b c us status_is.TooLarge lines first found h = h
+run_of_units root input a b c us status_is.Parses lines first rest found h = h
+run_of_units root input a b c us status_is.NoParse lines first rest found h = h
+run_of_units root input a b c us status_is.Words lines first rest found h = absurd h
+run_of_units root input a b c us status_is.Fault lines first rest found h = h
+run_of_units root input a b c us status_is.Spent lines first rest found h = absurd h
+run_of_units root input a b c us status_is.ReadFault lines first rest found h = inr (h.0, h.1, h.2, IsFailed-earlier a b c first h.3, h.4)
+run_of_units root input a b c us status_is.WriteFault lines first rest found h = absurd h
+run_of_units root input a b c us status_is.Missing lines first rest found h = inr (h.0, h.1, h.2, IsAbsent-earlier a b c input first h.3, h.4)
+run_of_units root input a b c us status_is.NoMemory lines first rest found h = absurd h
+run_of_units root input a b c us status_is.TooLarge lines first rest found h =
+    let read = Read-later b c root us found.0 found.1.0 rest found.1.1 in
+    let others = long_is_none c root us found.0 found.1.0 input h.2 read h.4 h.5 in
+    (h.0, h.1, h.2, h.3, h.4, h.5, h.6 ∙ (found.2 input others).1, h.7)
 
-pub IfOk-run : (root input : List ℕ) (a b c : FilesState) (us : List SourceUnit) (r : Result Answer NoMemory) → Later a b → FindsModules a b root us
+pub IfOk-run : (root input : List ℕ) (a b c : FilesState) (us : List SourceUnit) (r : Result Answer NoMemory) → Later a b → Later b c
+    → FindsModules a b root us
     → IfOk r (UnitsAnswer root input b c us) → IfOk r (λ x. IsRunAnswer root input a c x.status x.lines.items)
-IfOk-run root input a b c us (Ok x) first found h = run_of_units root input a b c us x.status x.lines.items first found (h found.0 found.1)
-IfOk-run root input a b c us (Err e) first found h = h
+IfOk-run root input a b c us (Ok x) first rest found h = run_of_units root input a b c us x.status x.lines.items first rest found (h found.0 found.1)
+IfOk-run root input a b c us (Err e) first rest found h = h
 
 -- a specification that is refused
 run_of_refusal : (root input : List ℕ) (old new : FilesState) (refusal : Refusal) (status : Status) (lines : List (List ℕ)) → TouchesModules old new root

@@ -1,7 +1,10 @@
 pub mod Answered
+pub mod Complete
 pub mod Loaded
 pub mod Reading
 pub mod Refusals
 pub mod Run
 pub mod Status
+pub mod Table
+pub mod Turns
 pub mod Words

@@ -7,8 +7,8 @@ use Rattle.ddl_source.specs.declared.error.SourceError.{SourceError}
 use Rattle.ddl_tree.specs.ModuleTree.{Module}
 
 -- this file has at most 2^22 bytes, and this is the tree of its text
-abbrev pub HasTreeIn : FilesState → List ℕ → Module → Type 0
-HasTreeIn files file tree = (bytes : List ℕ) × IsFile files file bytes × (length bytes ≤ 2 ^ 22) × HasTree 0 bytes tree
+abbrev pub HasShownTree : FilesState → List ℕ → Module → Type 0
+HasShownTree files file tree = (bytes : List ℕ) × IsFile files file bytes × (length bytes ≤ 2 ^ 22) × HasTree 0 bytes tree
 
 -- the file has more than 2^22 bytes, of which none was read
 abbrev pub IsLong : FilesState → FilesState → List ℕ → List ℕ → Reason → Type 0

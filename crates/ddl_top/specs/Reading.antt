@@ -9,8 +9,8 @@ use Rattle.ddl_typed.specs.Told.{IsAnswer, Told}
 use Rattle.ddl_simple.specs.Modules.{Declared}
 use Rattle.ddl_typed.specs.Tree.{alone}
 use Rattle.ddl_top.specs.Answered.{answer_lines, closing_only, status_of}
-use Rattle.ddl_top.specs.Loaded.{HasTreeIn, IsUnshown}
-use Rattle.ddl_top.specs.Run.{IsDenoted, IsLarge, IsUnbuilt, IsUnread, IsWithoutInput, specified_by}
+use Rattle.ddl_top.specs.Loaded.{HasShownTree, IsUnshown}
+use Rattle.ddl_top.specs.Run.{IsDenoted, IsLarge, IsUnbuilt, IsUnread, IsWithoutInput, specified_in}
 use Rattle.ddl_top.specs.Words.{Command, check_of, run_of, show_of}
 use Rattle.ddl_top.specs.declared.loading.Loaded.{Loaded}
 use Rattle.ddl_top.specs.declared.loading.Loaded.TheVariants as loaded_is
@@ -27,7 +27,7 @@ command_view (words_is.Show root) = show_of root.now
 
 -- what the loading of a module's file gives
 abbrev pub IsLoaded : FilesState → FilesState → List ℕ → List ℕ → Loaded → Type 0
-IsLoaded old new file name (loaded_is.Tree tree) = HasTreeIn new file (module_view tree)
+IsLoaded old new file name (loaded_is.Tree tree) = HasShownTree new file (module_view tree)
 IsLoaded old new file name (loaded_is.Refused told) = IsUnshown old new file name (reason_view told)
 IsLoaded old new file name loaded_is.Absent = IsAbsent old new file
 IsLoaded old new file name loaded_is.Failed = IsFailed old new
@@ -42,7 +42,7 @@ abbrev pub IsInputAnswer : List ℕ → List ℕ → FilesState → FilesState �
 IsInputAnswer root input old new status_is.Parses lines = IsDenoted root input new status_is.Parses lines
 IsInputAnswer root input old new status_is.NoParse lines = IsDenoted root input new status_is.NoParse lines
 IsInputAnswer root input old new status_is.Fault lines = IsDenoted root input new status_is.Fault lines
-IsInputAnswer root input old new status_is.TooLarge lines = IsLarge root input new lines
+IsInputAnswer root input old new status_is.TooLarge lines = IsLarge root input old new lines
 IsInputAnswer root input old new status_is.ReadFault lines = IsUnread root old new lines
 IsInputAnswer root input old new status_is.Missing lines = IsWithoutInput root input old new lines
 IsInputAnswer root input old new _ lines = ⊥
@@ -54,4 +54,4 @@ IsUnitsAnswer root input old new status lines = IsInputAnswer root input old new
 
 -- nothing was touched, or the modules specify something and nothing but the input was touched
 abbrev pub TouchesInput : List SourceUnit → List ℕ → FilesState → FilesState → Type 0
-TouchesInput us input old new = (new ≡ old) ⊎ ((spec : Declared) × (specified_by us ≡ Some spec) × TouchesOnly input old new)
+TouchesInput us input old new = (new ≡ old) ⊎ ((spec : Declared) × (specified_in us ≡ Some spec) × TouchesOnly input old new)

@@ -5,9 +5,8 @@ use Rattle.ddl_front.specs.Front.{AreBoundModules, IsRefused, TouchesModules}
 use Rattle.ddl_front.specs.Reasons.{Reason}
 use Rattle.ddl_modules.specs.Files.{module_name}
 use Rattle.ddl_modules.specs.Reading.{TouchesOnlyThese}
-use Rattle.ddl_outside.specs.Counts.{Rose}
 use Rattle.ddl_outside.specs.Files.{FilesState, IsFile, IsAbsent, IsFailed, TouchesOnly}
-use Rattle.ddl_outside.specs.Sink.{SinkState, Writes, WritesPart}
+use Rattle.ddl_outside.specs.Sink.{SinkState, Writes, WritesPart, OffersLines, OffersSome}
 use Rattle.ddl_outside.specs.declared.refusal.Refusal.{Refusal}
 use Rattle.ddl_report.specs.declared.closing.Closing.TheVariants as closing_is
 use Rattle.ddl_show.specs.Show.{show_text}
@@ -19,7 +18,7 @@ use Rattle.ddl_tree.specs.declared.module.SourceUnit.{SourceUnit}
 use Rattle.ddl_typed.specs.Told.{IsAnswer, Told}
 use Rattle.ddl_typed.specs.Tree.{alone}
 use Rattle.ddl_top.specs.Answered.{answer_lines, closing_only, status_of}
-use Rattle.ddl_top.specs.Loaded.{HasTreeIn, IsUnshown}
+use Rattle.ddl_top.specs.Loaded.{HasShownTree, IsUnshown}
 use Rattle.ddl_top.specs.Refusals.{IsRefusalAnswer, reason_lines}
 use Rattle.ddl_top.specs.Words.{Command, check_of, command_of, file_of, run_of, show_of}
 use Rattle.ddl_top.specs.declared.status.Status.{Status}
@@ -28,17 +27,17 @@ use Rattle.ddl_top.specs.declared.status.Status.TheVariants as status_is
 -- ---- specifications
 
 -- what modules specify, where they are of a form that is run so far: the prelude, and a root of the form
-abbrev pub specified_by : List SourceUnit → Option Declared
-specified_by (prelude ∷ root ∷ []) = specified (module_view root.tree)
-specified_by us = None
+abbrev pub specified_in : List SourceUnit → Option Declared
+specified_in (prelude ∷ root ∷ []) = specified (module_view root.tree)
+specified_in us = None
 
 -- the modules of a root, which have these files, are accepted with this specification
 abbrev pub IsAccepted : FilesState → List ℕ → List (List ℕ) → Declared → Type 0
-IsAccepted files root names spec = (us : List SourceUnit) × AreBoundModules files root names us × (specified_by us ≡ Some spec)
+IsAccepted files root names spec = (us : List SourceUnit) × AreBoundModules files root names us × (specified_in us ≡ Some spec)
 
 -- its modules are loaded and their names are bound, and they are of no form that is run so far
 abbrev pub IsUnbuilt : FilesState → List ℕ → Type 0
-IsUnbuilt files root = (names : List (List ℕ)) × (us : List SourceUnit) × AreBoundModules files root names us × (specified_by us ≡ None)
+IsUnbuilt files root = (names : List (List ℕ)) × (us : List SourceUnit) × AreBoundModules files root names us × (specified_in us ≡ None)
 
 -- why a root has no specification, as a call answers it
 abbrev pub IsRefusedWith : List ℕ → FilesState → FilesState → Status → List (List ℕ) → Type 0
@@ -61,11 +60,11 @@ IsDenoted root input files status lines =
     × IsAccepted files root names spec × IsFile files input content × (length content ≤ 2 ^ 30)
     × IsAnswer (alone spec.span spec.body) 0 content told × (status ≡ status_of told.closing) × (lines ≡ answer_lines (module_name root) told)
 
--- the specification is accepted, and the input's told length is above 2^30
-abbrev pub IsLarge : List ℕ → List ℕ → FilesState → List (List ℕ) → Type 0
-IsLarge root input files lines =
-    (names : List (List ℕ)) × (spec : Declared) × (n : ℕ) × IsAccepted files root names spec × (files.told input ≡ Some n) × (2 ^ 30 < n)
-    × (lines ≡ closing_only closing_is.Large)
+-- the specification is accepted, and the input's told length is above 2^30; no byte of the input was read
+abbrev pub IsLarge : List ℕ → List ℕ → FilesState → FilesState → List (List ℕ) → Type 0
+IsLarge root input old new lines =
+    (names : List (List ℕ)) × (spec : Declared) × (n : ℕ) × IsAccepted new root names spec × (new.told input ≡ Some n) × (2 ^ 30 < n)
+    × (new.reach input ≡ old.reach input) × (lines ≡ closing_only closing_is.Large)
 
 -- the specification is accepted, and its input is not there, or a call of the files failed
 abbrev pub IsWithoutInput : List ℕ → List ℕ → FilesState → FilesState → List (List ℕ) → Type 0
@@ -83,7 +82,7 @@ IsRunAnswer root input old new status_is.NoParse lines = IsDenoted root input ne
 IsRunAnswer root input old new status_is.Fault lines = IsDenoted root input new status_is.Fault lines
 IsRunAnswer root input old new status_is.Refused lines =
     TouchesModules old new root × (IsRefusedWith root old new status_is.Refused lines ⊎ (IsUnbuilt new root × (lines ≡ closing_only closing_is.Unbuilt)))
-IsRunAnswer root input old new status_is.TooLarge lines = IsLarge root input new lines
+IsRunAnswer root input old new status_is.TooLarge lines = IsLarge root input old new lines
 IsRunAnswer root input old new status_is.ReadFault lines = IsRefusedWith root old new status_is.ReadFault lines ⊎ IsUnread root old new lines
 IsRunAnswer root input old new status_is.Missing lines = IsRefusedWith root old new status_is.Missing lines ⊎ IsWithoutInput root input old new lines
 IsRunAnswer root input old new _ lines = ⊥
@@ -101,7 +100,7 @@ IsCheckAnswer root old new _ lines = ⊥
 
 -- what `show ROOT` answers: the text of the module's tree, or why there is none
 abbrev pub IsShowAnswer : List ℕ → FilesState → FilesState → Status → List (List ℕ) → Type 0
-IsShowAnswer root old new status_is.Parses lines = (tree : Module) × HasTreeIn new (file_of root) tree × (lines ≡ show_text tree ∷ [])
+IsShowAnswer root old new status_is.Parses lines = (tree : Module) × HasShownTree new (file_of root) tree × (lines ≡ show_text tree ∷ [])
 IsShowAnswer root old new status_is.Refused lines = (r : Reason) × IsUnshown old new (file_of root) (module_name root) r × (lines ≡ reason_lines r)
 IsShowAnswer root old new status_is.ReadFault lines = IsFailed old new × (lines ≡ closing_only closing_is.Read)
 IsShowAnswer root old new status_is.Missing lines = IsAbsent old new (file_of root) × (lines ≡ closing_only (closing_is.Missing (file_of root)))
@@ -122,15 +121,17 @@ IsWordsAnswer words old new status lines =
     ((status ≡ status_is.Words) × (new ≡ old) × (lines ≡ closing_only closing_is.Words))
     (λ command. IsCommandAnswer command old new status lines)
 
--- What a call answers, and the bytes by which what was written grew: the lines of its answer. Where a write failed, only a
--- first part of the lines of some answer, which comes only where a room that is told is too small for them; where memory
--- ran out, none.
+-- What a call answers, and the bytes by which what was written grew: the lines of its answer, each by one write with its
+-- newline, and by further ones for its rest. Where a write failed, only a first part of the lines of some answer, which comes
+-- only where a room that is told is too small for them; where memory ran out, none.
 abbrev pub IsRun : List (List ℕ) → FilesState → FilesState → SinkState → SinkState → Status → Type 0
 IsRun words old new out out' status_is.WriteFault =
     (status : Status) × (lines : List (List ℕ))
     × IsWordsAnswer words old new status lines × WritesPart out out' (concat lines) × IfSome out.room (λ n. n < length (concat lines))
+    × OffersSome out out' lines
 IsRun words old new out out' status_is.NoMemory = out' ≡ out
-IsRun words old new out out' status = (lines : List (List ℕ)) × IsWordsAnswer words old new status lines × Writes out out' (concat lines)
+IsRun words old new out out' status =
+    (lines : List (List ℕ)) × IsWordsAnswer words old new status lines × Writes out out' (concat lines) × OffersLines out out' lines
 
 -- nothing was touched but the files of modules, or the specification is accepted, and nothing was touched but its files and the input
 abbrev pub RunsInOrder : List ℕ → List ℕ → FilesState → FilesState → Type 0
@@ -147,20 +148,3 @@ CommandTouches (show_of root) old new = TouchesOnly (file_of root) old new
 -- what these words let a call touch
 abbrev pub TouchesInOrder : List (List ℕ) → FilesState → FilesState → Type 0
 TouchesInOrder words old new = MatchOption (command_of words) (new ≡ old) (λ command. CommandTouches command old new)
-
--- no count of what went wrong outside rose
-pub record NothingFailed (old new : FilesState) (out out' : SinkState) : Type 0 where
-  pub reads : ¬ Rose old.faults new.faults
-  pub files : ¬ Rose old.misses new.misses
-  pub writes : ¬ Rose out.faults out'.faults
-
--- a status that comes where nothing failed outside
-abbrev pub IsOfTheModule : Status → Type 0
-IsOfTheModule status_is.Parses = Unit {0}
-IsOfTheModule status_is.NoParse = Unit {0}
-IsOfTheModule status_is.Words = Unit {0}
-IsOfTheModule status_is.Refused = Unit {0}
-IsOfTheModule status_is.Fault = Unit {0}
-IsOfTheModule status_is.TooLarge = Unit {0}
-IsOfTheModule status_is.NoMemory = Unit {0}
-IsOfTheModule _ = ⊥

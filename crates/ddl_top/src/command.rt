@@ -1,6 +1,7 @@
 ghost use Rattle.std.specs.Prelude.{◌≡◌, map, string_bytes, IfOk};
-ghost use Rattle.ddl_outside.specs.Files.{Later};
-ghost use Rattle.ddl_top.specs.Run.{IsOfTheModule, IsRun, IsWordsAnswer, NothingFailed, TouchesInOrder};
+ghost use Rattle.ddl_outside.specs.Files.{IsToldAsHeld, Later};
+ghost use Rattle.ddl_top.specs.Complete.{IsOwnAnswer, NothingFails};
+ghost use Rattle.ddl_top.specs.Run.{IsRun, IsWordsAnswer, TouchesInOrder};
 
 use crate::answer::{Answer, closing_answer};
 use crate::checking::check_answer;
@@ -49,12 +50,16 @@ pub fn run<F: Files, S: Sink>(
     ensures order { TouchesInOrder (map string_bytes words.now.items)
         (F.state files.old) (F.state files.new) }
 
-    // Where nothing fails outside, the answer is the specification's own, or want of memory.
-    ensures complete { NothingFailed (F.state files.old) (F.state files.new)
-        (S.state out.old) (S.state out.new) → IsOfTheModule result }
+    // Where nothing fails outside and each file is there whose turn comes, the answer is the words' own, or want of memory.
+    ensures complete { NothingFails (map string_bytes words.now.items)
+        (F.state files.old) (F.state files.new) (S.state out.old) (S.state out.new)
+        → IsOwnAnswer (map string_bytes words.now.items) (F.state files.new) result }
 
     // What is held and what was told stays, and no count falls. Files that may not fail did not.
     ensures files { Later (F.state files.old) (F.state files.new) }
+
+    // Each length that was told is that of the file which is held.
+    ensures lengths { IsToldAsHeld (F.state files.new) }
 {
     match answer_to(alloc, words, files) {
         Ok(answer) => match write_lines(out, &answer.lines) {

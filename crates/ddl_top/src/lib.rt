@@ -4,6 +4,7 @@
 mod answer;
 mod checking;
 mod command;
+mod laws;
 mod loading;
 mod names;
 mod refusal;
@@ -12,4 +13,5 @@ mod showing;
 mod status;
 
 pub use command::run;
+pub use laws::table_law;
 pub use status::Status;

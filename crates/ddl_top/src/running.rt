@@ -7,7 +7,7 @@ ghost use Rattle.ddl_simple.specs.Modules.{declared_view};
 ghost use Rattle.ddl_typed.specs.Simple.{IsSimple};
 ghost use Rattle.ddl_typed.specs.View.{view};
 ghost use Rattle.ddl_top.specs.Reading.{IsInputAnswer, IsUnitsAnswer, TouchesInput};
-ghost use Rattle.ddl_top.specs.Run.{IsAccepted, IsRunAnswer, RunsInOrder, specified_by};
+ghost use Rattle.ddl_top.specs.Run.{IsAccepted, IsRunAnswer, RunsInOrder, specified_in};
 
 use crate::answer::{Answer, closing_answer, denoted_answer, missing_answer};
 use crate::refusal::refusal_answer;
@@ -27,7 +27,7 @@ const MOST_INPUT: u64 = 1_073_741_824;
 
 /// What modules specify, where they are of a form that is run so far.
 fn specification(alloc: Global, units: &[SourceUnit]) -> Result<Option<TDecl>, NoMemory>
-    ensures value { IfOk result (λ found. option_map declared_view found ≡ specified_by units.now) }
+    ensures value { IfOk result (λ found. option_map declared_view found ≡ specified_in units.now) }
     ensures simple { IfOk result (λ found. IfSome found (λ d. IsSimple (view d.body) 0)) }
 {
     if units.len() == 2 {

@@ -1,4 +1,4 @@
-use Rattle.std.proofs.Common.{◌≡◌, ◌∙◌, ap, rules}
+use Rattle.std.proofs.Common.{◌≡◌, ◌∙◌, List, ℕ, ap, rules}
 use Rattle.std.specs.Prelude.{IfOk}
 use Rattle.ddl_modules.specs.Files.{module_name}
 use Rattle.ddl_simple.specs.Modules.{declared_view}
@@ -21,7 +21,7 @@ returns-in-Longer-clause-answer g c =
     let longer = rw c.in-Longer.is at c.in_ok-content.ensures.answer in
     IfOk-large c.args.root.now c.args.input.now (g.F.Files.state c.args.files.now) (g.F.Files.state c.read_whole.new.files) (declared_view c.args.spec.now)
     c.in-Longer.field-0 c.closing_answer.result
-    c.in_ok-content.ensures.later longer.0 longer.1 c.closing_answer.ensures
+    c.in_ok-content.ensures.later longer.0 longer.1 (ap (λ (r : List ℕ → ℕ). r c.args.input.now) longer.2) c.closing_answer.ensures
 
 pub returns-in-Absent-clause-answer : goal.returns-in-Absent-clause-answer
 returns-in-Absent-clause-answer g c =

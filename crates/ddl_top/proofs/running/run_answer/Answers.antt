@@ -25,7 +25,7 @@ returns-in-Ok-clause-answer g c =
     rw c.deref.ensures.value at c.units_answer.ensures.answer in
     IfOk-run c.args.root.now c.args.input.now (g.F.Files.state c.args.files.now) (g.F.Files.state c.bound_modules.new.files)
     (g.F.Files.state c.units_answer.new.files) c.in-Ok.units.items c.units_answer.result
-    c.in-Ok.ensures.later c.in-Ok.ensures.bound answer
+    c.in-Ok.ensures.later c.units_answer.ensures.later c.in-Ok.ensures.bound answer
 
 pub returns-in-Err-clause-answer : goal.returns-in-Err-clause-answer
 returns-in-Err-clause-answer g c =

@@ -1,4 +1,5 @@
 use Rattle.std.proofs.Common.{length, ap, ◌∙◌}
+use Rattle.ddl_outside.specs.Counts.{one_more}
 use Rattle.ddl_outside.specs.MemFiles.{MemState, files_state, told_in}
 use Rattle.ddl_outside.proofs.FilesLemmas.{Later-trans, IsPiece-earlier}
 use Rattle.ddl_outside.proofs.MemFilesLemmas.{Later-asked, TouchesOnly-asked, IsTold-asked, told_in-asked, reach_in-asked}
@@ -30,3 +31,12 @@ returns-clause-answer c =
     IsPiece-earlier (files_state c.args.self.now) (files_state c.asked.new.self) (files_state c.piece.new.self) c.args.name.now c.args.at c.piece.new.into
     c.piece.result
     (Later-asked c.args.self.now c.asked.new.self c.args.at (length c.args.into.now) c.args.name.now c.asked.ensures) c.piece.ensures.answer
+
+pub returns-clause-named : goal.returns-clause-named
+returns-clause-named c = rw c.asked.ensures at c.piece.ensures.named
+
+pub returns-clause-calls : goal.returns-clause-calls
+returns-clause-calls c = (
+  c.piece.ensures.calls ∙ ap (λ (m : MemState). one_more m.calls) c.asked.ensures,
+  c.piece.ensures.failing ∙ ap (λ (m : MemState). m.failing) c.asked.ensures,
+)
