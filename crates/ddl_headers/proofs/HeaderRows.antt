@@ -41,7 +41,7 @@ uint_type n d from at to = y.Uint (number Decimal n d at to) (place from to)
 
 -- nothing before the group
 abbrev empty : Table
-empty = record { known = λ d. unknown; done = []; places = []; bitdata = []; texts = []; sites = 0 }
+empty = record { known = λ d. unknown; done = []; places = []; bitdata = []; declared = []; texts = []; sites = 0 }
 
 -- all declarations are one group
 abbrev members : ℕ → List mo.Decl → List ℕ

@@ -172,6 +172,7 @@ module _ (decls : List mo.Decl) (uses : List (List Use)) where
       with_parameters = r.with_parameters;
       state = r.state;
       bitdata = r.bitdata;
+      declared = z.declared ++ bitdata_among ms;
     }
 
     -- the first that is wrong with what is written in a group, in text order
