@@ -1,0 +1,4 @@
+pub mod Cells
+pub mod Exchange
+pub mod Fitting
+pub mod Pushed
