@@ -13,7 +13,8 @@ use Rattle.ddl_ops.specs.declared.operators.Primitive.TheVariants.{SetStream}
 use Rattle.ddl_ops.specs.declared.pattern.Pattern.TheVariants.{Tag}
 use Rattle.ddl_core.specs.Core.{Operation, text, literal, just_, list, record_, union_, select, push, match, uint8, builtin, primitive}
 use Rattle.ddl_blocks.specs.Code.{ValueType, of_type, builder, Instr, do_, build, content, spawn, notify, dup, free, Exit, call_to, return, fail_, Block}
-use Rattle.ddl_blocks.specs.Code.{Function, PlaceShape, record_shape, union_shape, Code}
+use Rattle.ddl_core.specs.Places.{PlaceShape, record_shape, union_shape}
+use Rattle.ddl_blocks.specs.Code.{Function, Code}
 use Rattle.ddl_blocks.specs.OperationTypes as types
 use Rattle.ddl_blocks.specs.Run.{Run}
 use Rattle.ddl_blocks.specs.SlotRun.{SlotRun, slot_counts}

@@ -3,10 +3,10 @@ use Rattle.std.specs.Prelude.{ℕ, Bool, List, Option}
 use Rattle.ddl_base.specs.declared.span.Span.{Span}
 use Rattle.ddl_base.specs.declared.why.Why.{Why}
 use Rattle.ddl_types.specs.declared.fault.Fault.{Fault}
-use Rattle.ddl_types.specs.Layout.{Layout}
 use Rattle.ddl_types.specs.Types.{Ty}
 use Rattle.ddl_ops.specs.declared.pattern.Pattern.{Pattern}
 use Rattle.ddl_core.specs.Core.{Operation}
+use Rattle.ddl_core.specs.Places.{DeclName, PlaceShape}
 
 -- the type of a value of a block: a type of the language, an array that still grows, or the number of a thread
 pub data ValueType : Type 0 where
@@ -73,17 +73,6 @@ pub record Function : Type 0 where
   pub blocks : List Block
   pub result : ValueType
   pub name : Option ℕ
-
--- a declaration: the number of its module, and its name
-pub record DeclName : Type 0 where
-  pub unit : ℕ
-  pub name : List ℕ
-
--- a record with its fields' names and types, a union with its tags and their contents' types, or a bitdata
-pub data PlaceShape : Type 0 where
-  record_shape : List (List ℕ) → List Ty → PlaceShape
-  union_shape : List (List ℕ) → List Ty → PlaceShape
-  bits_shape : List ℕ → Layout → PlaceShape
 
 -- what the machine runs
 pub record Code : Type 0 where

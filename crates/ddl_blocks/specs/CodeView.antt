@@ -1,17 +1,14 @@
 -- The code that a value of the program stands for.
-use Rattle.std.specs.Prelude.{List, [], ◌∷◌, map}
+use Rattle.std.specs.Prelude.{List, map}
 use Rattle.ddl_types.specs.Layout.{Layout}
 use Rattle.ddl_types.specs.TyView.{ty_view}
-use Rattle.ddl_ops.specs.LayoutView.{layout_view}
 use Rattle.ddl_core.specs.OperationView.{operation_view}
+use Rattle.ddl_core.specs.PlaceView.{decl_view, shape_view, layouts_in}
 use Rattle.ddl_blocks.specs.declared.block.Block.{Block}
 use Rattle.ddl_blocks.specs.declared.block.Function.{Function}
 use Rattle.ddl_blocks.specs.declared.block.ValueType.{ValueType}
 use Rattle.ddl_blocks.specs.declared.block.ValueType.TheVariants.{Of, Builder, Thread}
 use Rattle.ddl_blocks.specs.declared.code.Code.{Code}
-use Rattle.ddl_blocks.specs.declared.code.DeclName.{DeclName}
-use Rattle.ddl_blocks.specs.declared.code.PlaceShape.{PlaceShape}
-use Rattle.ddl_blocks.specs.declared.code.PlaceShape.TheVariants.{Record, Union, Bits}
 use Rattle.ddl_blocks.specs.declared.instr.End.{End}
 use Rattle.ddl_blocks.specs.declared.instr.End.TheVariants as E
 use Rattle.ddl_blocks.specs.declared.instr.FaultTarget.{FaultTarget}
@@ -64,21 +61,6 @@ block_view ls b = record { params = map type_view b.params.items; body = map (in
 
 abbrev pub function_view : List Layout → Function → c.Function
 function_view ls f = record { params = f.params; blocks = map (block_view ls) f.blocks.items; result = type_view f.result; name = f.name }
-
-abbrev pub decl_view : DeclName → c.DeclName
-decl_view d = record { unit = d.unit; name = d.name }
-
-abbrev pub shape_view : PlaceShape → c.PlaceShape
-shape_view (Record names types) = c.record_shape names.items (map ty_view types.items)
-shape_view (Union tags types) = c.union_shape tags.items (map ty_view types.items)
-shape_view (Bits name layout) = c.bits_shape name (layout_view layout.layout)
-
--- the layouts of the bitdata, in the order of their numbers
-abbrev pub layouts_in : List PlaceShape → List Layout
-layouts_in [] = []
-layouts_in (Record names types ∷ ps) = layouts_in ps
-layouts_in (Union tags types ∷ ps) = layouts_in ps
-layouts_in (Bits name layout ∷ ps) = layout_view layout.layout ∷ layouts_in ps
 
 abbrev pub code_view : Code → c.Code
 code_view k = record {

@@ -4,7 +4,8 @@ use Rattle.ddl_base.specs.declared.span.Span.{Span}
 use Rattle.ddl_base.specs.declared.why.Why.{Why}
 use Rattle.ddl_base.specs.declared.why.Why.TheVariants.{Said}
 use Rattle.ddl_core.specs.Core.{Operation, fail}
-use Rattle.ddl_blocks.specs.Code.{of_type, Instr, do_, content, note, Exit, call_to, halt, Block, Function, PlaceShape, record_shape, union_shape, bits_shape}
+use Rattle.ddl_core.specs.Places.{PlaceShape, record_shape, union_shape, bits_shape}
+use Rattle.ddl_blocks.specs.Code.{of_type, Instr, do_, content, note, Exit, call_to, halt, Block, Function}
 use Rattle.ddl_blocks.specs.Code.{Code}
 use Rattle.ddl_blocks.specs.Places.{Each, types_in, IsType, IsOpenType, IsValueType}
 

@@ -23,7 +23,8 @@ use Rattle.ddl_ops.specs.declared.pattern.Pattern.TheVariants.{Any, Number, Trut
 use Rattle.ddl_core.specs.Core.{Operation, text, literal, truth, unit_, nothing_, just_, list, record_, union_, select, infix_, prefix_, cast, builtin}
 use Rattle.ddl_core.specs.Core.{truth_of_, count_, most, push, less_one, first_position, has_position, element_at, key_at, next_position, gather, uint8}
 use Rattle.ddl_core.specs.Core.{match_text, match, end, class, fail, no_case, primitive, guard, fits, wrong}
-use Rattle.ddl_blocks.specs.Code.{PlaceShape, record_shape, union_shape, ValueType, of_type}
+use Rattle.ddl_core.specs.Places.{PlaceShape, record_shape, union_shape}
+use Rattle.ddl_blocks.specs.Code.{ValueType, of_type}
 use Rattle.ddl_blocks.specs.Code as code
 use Rattle.ddl_blocks.specs.Places.{Each, listed, place_at, layouts_of, bits_at, IsWidth}
 

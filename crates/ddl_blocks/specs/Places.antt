@@ -2,7 +2,8 @@
 use Rattle.std.specs.Prelude.{◌≡◌, ℕ, suc, ◌≤◌, List, [], ◌∷◌, Bool, true, false, Option, Some, None, slice_get}
 use Rattle.ddl_types.specs.Layout.{Layout}
 use Rattle.ddl_types.specs.Types.{Ty, Tys, Head, var, con, none, more, uint, sint, stream, maybe_of, array_of, map_of, bits, place, Below}
-use Rattle.ddl_blocks.specs.Code.{PlaceShape, record_shape, union_shape, bits_shape, ValueType, of_type, builder, thread}
+use Rattle.ddl_core.specs.Places.{PlaceShape, record_shape, union_shape, bits_shape}
+use Rattle.ddl_blocks.specs.Code.{ValueType, of_type, builder, thread}
 
 -- each of a list
 abbrev pub Each : {A : Type 0} → (A → Type 0) → List A → Type 0

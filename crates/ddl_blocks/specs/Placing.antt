@@ -23,7 +23,8 @@ use Rattle.ddl_slots.specs.declared.word.Stream.{Stream}
 use Rattle.ddl_slots.specs.declared.word.Word.{Word}
 use Rattle.ddl_slots.specs.declared.word.Word.TheVariants as W
 use Rattle.ddl_slots.specs.Slots.{Entry, Slots, entry}
-use Rattle.ddl_blocks.specs.Code.{PlaceShape, record_shape, union_shape, bits_shape, ValueType, of_type}
+use Rattle.ddl_core.specs.Places.{PlaceShape, record_shape, union_shape, bits_shape}
+use Rattle.ddl_blocks.specs.Code.{ValueType, of_type}
 use Rattle.ddl_blocks.specs.Code as code
 use Rattle.ddl_blocks.specs.Machine.{one_more}
 use Rattle.ddl_blocks.specs.Places.{place_at}

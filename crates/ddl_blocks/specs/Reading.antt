@@ -15,7 +15,8 @@ use Rattle.ddl_slots.specs.declared.word.Stream.{Stream}
 use Rattle.ddl_slots.specs.declared.word.Word.{Word}
 use Rattle.ddl_slots.specs.declared.word.Word.TheVariants as W
 use Rattle.ddl_slots.specs.Slots.{Entry, Slots, entry, live}
-use Rattle.ddl_blocks.specs.Code.{PlaceShape, record_shape, union_shape, ValueType, of_type, builder, thread}
+use Rattle.ddl_core.specs.Places.{PlaceShape, record_shape, union_shape}
+use Rattle.ddl_blocks.specs.Code.{ValueType, of_type, builder, thread}
 use Rattle.ddl_blocks.specs.Machine.{number_value}
 use Rattle.ddl_blocks.specs.Places.{listed, place_at, bits_at}
 

@@ -18,7 +18,8 @@ use Rattle.ddl_slots.specs.declared.word.Word.TheVariants as W
 use Rattle.ddl_slots.specs.Slots.{Slots, picked, made, dup_all, release_all}
 use Rattle.ddl_slots.specs.Slots as slots
 use Rattle.ddl_blocks.specs.Code.{Prim, Instr, do_, build, choose, content, spawn, notify, dup, free, note, Exit, jump, branch, switch_to, call_to, return}
-use Rattle.ddl_blocks.specs.Code.{fail_, halt, Function, PlaceShape, ValueType, of_type, builder}
+use Rattle.ddl_core.specs.Places.{PlaceShape}
+use Rattle.ddl_blocks.specs.Code.{fail_, halt, Function, ValueType, of_type, builder}
 use Rattle.ddl_blocks.specs.Machine.{block_at, picks, target_of, choice_of, truth_in, number_in}
 use Rattle.ddl_blocks.specs.OperationTypes.{array, count, unit}
 use Rattle.ddl_blocks.specs.Placing.{Placed, as_word, as_node, node_of, array_of, placed, placed_content}

@@ -4,7 +4,8 @@ use Rattle.ddl_types.specs.declared.fault.Fault.{Fault}
 use Rattle.ddl_types.specs.Types.{Ty}
 use Rattle.ddl_core.specs.Core.{Operation}
 use Rattle.ddl_blocks.specs.Code.{ValueType, of_type, builder, thread, Target, Targets, Instr, do_, build, choose, content, spawn, notify, dup, free, note}
-use Rattle.ddl_blocks.specs.Code.{Exit, jump, branch, switch_to, call_to, return, fail_, halt, Block, Function, PlaceShape, Code}
+use Rattle.ddl_core.specs.Places.{PlaceShape}
+use Rattle.ddl_blocks.specs.Code.{Exit, jump, branch, switch_to, call_to, return, fail_, halt, Block, Function, Code}
 use Rattle.ddl_blocks.specs.Failing.{may_fail, faults_of}
 use Rattle.ddl_blocks.specs.Machine.{block_at, picks, target_of}
 use Rattle.ddl_blocks.specs.OperationTypes.{array, bool, count, unit, HasPattern, HasTypes}

@@ -7,6 +7,6 @@ mod instr;
 mod laws;
 
 pub use block::{Block, Function, ValueType};
-pub use code::{Code, DeclName, PlaceShape};
+pub use code::Code;
 pub use instr::{End, FaultTarget, Instr, Targets};
 pub use laws::{budget_law, numbers_law, operations_law};

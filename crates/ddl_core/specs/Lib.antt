@@ -1,8 +1,13 @@
 pub mod Attempt
+pub mod Beside
+pub mod BesideView
 pub mod Core
 pub mod CoreView
 pub mod Laws
 pub mod Meaning
 pub mod OperationView
 pub mod Operations
+pub mod PlaceView
+pub mod Places
+pub mod Typing
 pub mod View

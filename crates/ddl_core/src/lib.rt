@@ -4,9 +4,11 @@
 mod form;
 mod laws;
 mod operation;
+mod place;
 mod program;
 
 pub use form::{Alternative, Form};
 pub use laws::{attempt_law, depth_law};
 pub use operation::Operation;
+pub use place::{DeclName, PlaceShape};
 pub use program::{Core, CoreFn};

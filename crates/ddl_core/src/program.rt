@@ -1,6 +1,6 @@
 use crate::form::Form;
-use ddl_base::Bytes;
-use ddl_bits::Checked;
+use crate::place::{DeclName, PlaceShape};
+use ddl_base::{Bytes, Span};
 use ddl_types::Ty;
 
 /// A function.
@@ -17,11 +17,17 @@ pub struct CoreFn {
 /// A specification in the core language.
 #[derive(Drop)]
 pub struct Core {
+    /// The names of the modules.
+    pub units: Vec<Bytes>,
     /// The texts of `Fail`, in the order of their numbers.
     pub texts: Vec<Bytes>,
-    /// The layouts of the bitdata, in the order of their numbers.
-    pub bits: Vec<Checked>,
+    /// The name of each function's declaration, in the order of the functions.
+    pub decls: Vec<DeclName>,
+    /// Records and unions in the order of their numbers, and bitdata in the order of theirs.
+    pub places: Vec<PlaceShape>,
     pub functions: Vec<CoreFn>,
     /// The function that is run.
     pub entry: u32,
+    /// Where the name of the function that is run stands, where there is such a function.
+    pub entry_name: Option<Span>,
 }

@@ -5,7 +5,8 @@ use Rattle.ddl_types.specs.Types.{Ty}
 use Rattle.ddl_core.specs.Core.{Core}
 use Rattle.ddl_core.specs.Core as c
 use Rattle.ddl_core.specs.Meaning.{function_at}
-use Rattle.ddl_blocks.specs.Code.{ValueType, of_type, return, Block, Function, DeclName, PlaceShape, Code}
+use Rattle.ddl_core.specs.Places.{DeclName, PlaceShape}
+use Rattle.ddl_blocks.specs.Code.{ValueType, of_type, return, Block, Function, Code}
 use Rattle.ddl_blocks.specs.OperationTypes.{unit}
 use Rattle.ddl_emission.specs.Pieces.{upto, Out, to_block, Place, entry_of, ending_block}
 use Rattle.ddl_emission.specs.Emission.{emit}

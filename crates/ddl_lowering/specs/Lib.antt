@@ -1,3 +1,4 @@
+pub mod Beside
 pub mod Choices
 pub mod Laws
 pub mod Loops
